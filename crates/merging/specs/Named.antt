@@ -1,0 +1,114 @@
+-- The names that a list of merges, read backwards, has brought in: each merge takes a cluster that is there into another.
+-- Main definitions: named, Good, Rising. Main results: names-all, good, rising.
+use mathlib.Core.Path.{_≡_, refl, sym, _∙_}
+use mathlib.Core.Logic.{_⊎_, inl, inr}
+use mathlib.Core.Bool.{Bool, true, false, _||_, cond, false≢true, true≢false}
+use mathlib.Core.List.{List, [], _∷_, _++_}
+use Prim.Native.Nat.{ℕ, zero, suc, _+_, _-_, _≤_, _<_}
+use native.Mathlib.Omega.{arith}
+use lib.Dec.{eqb, ltb}
+use lib.ListN.{length, take, drop, getD}
+use borrow.Author.Tests.{ltb-true, ltb-false, eqb-true, eqb-false, eq-eqb, ne-eqb}
+use Rattle.rules.specs.Building.{Merge}
+use Rattle.merging.specs.Bools.{or-left, or-right, or-swap, or-no}
+use Rattle.merging.specs.Insertion.{put, insert, pairsOf, Bounded, pairs-length}
+use Rattle.merging.specs.Greedy.{Under, under-pairs}
+
+unfoldable pub named : List Merge → ℕ → Bool
+named [] x = eqb 0 x
+named (m ∷ P) x = named P x || eqb (m .1) x
+
+-- each merge takes a cluster that is there into another
+unfoldable pub Good : List Merge → Type 0
+unfolding named
+Good [] = Unit {0}
+Good (m ∷ P) = (named P (m .0) ≡ true) × (named P (m .1) ≡ false) × Good P
+
+pub named-put : (n d : ℕ) (P : List Merge) (x : ℕ) → named (put n d P) x ≡ named P x || eqb n x
+unfolding named put
+named-put n d [] x = refl
+named-put n zero (m ∷ P) x = or-swap (named P x) (eqb n x) (eqb (m .1) x)
+named-put n (suc d) (m ∷ P) x = rw (named-put n d P x) (or-swap (named P x) (eqb n x) (eqb (m .1) x))
+
+pub named-insert : (n y : ℕ) (P : List Merge) (x : ℕ) → named (insert n y P) x ≡ named P x || eqb n x
+unfolding insert named
+named-insert n y P x = go (ltb y n)
+  where
+    go : (b : Bool) → named (cond b ((y, n) ∷ P) (put n (y - n) P)) x ≡ named P x || eqb n x
+    go true = refl
+    go false = named-put n (y - n) P x
+
+pub named-all : (v : ℕ → ℕ) (n x : ℕ) → x < n → named (pairsOf v n) x ≡ true
+unfolding pairsOf named
+named-all v zero x h = absurd (omega arith)
+named-all v (suc zero) x h = eq-eqb 0 x (omega arith)
+named-all v (suc (suc m)) x h = named-insert (suc m) (v (suc m)) (pairsOf v (suc m)) x ∙ go (eqb x (suc m)) refl (named-all v (suc m) x)
+  where
+    go : (b : Bool) → eqb x (suc m) ≡ b → (x < suc m → named (pairsOf v (suc m)) x ≡ true) → named (pairsOf v (suc m)) x || eqb (suc m) x ≡ true
+    go true q ih = or-right (named (pairsOf v (suc m)) x) (eqb (suc m) x) (eq-eqb (suc m) x (sym (eqb-true x (suc m) q)))
+    go false q ih = or-left (named (pairsOf v (suc m)) x) (eqb (suc m) x) (ih (omega (arith, eqb-false x (suc m) q)))
+
+pub named-under : (n : ℕ) (P : List Merge) → 0 < n → Under n P → named P n ≡ false
+unfolding named Under
+named-under n [] h u = ne-eqb 0 n (omega arith)
+named-under n (m ∷ P) h u = rw (named-under n P h (u .1), ne-eqb (m .1) n (let l = u .0 in omega arith))
+
+pub good-put : (n d : ℕ) (P : List Merge) → Good P → named P n ≡ false → d < length P → Good (put n d P)
+unfolding Good put named
+good-put n d [] G e h = absurd (omega arith)
+good-put n zero (m ∷ P) G e h =
+    let k = or-no (named P n) (eqb (m .1) n) e in (
+      or-left (named P (m .0)) (eqb n (m .0)) (G .0),
+      rw (G .1) (ne-eqb n (m .1) (λ q. eqb-false (m .1) n (k .1) (sym q))),
+      (G .0, k .0, G .2),
+    )
+good-put n (suc d) (m ∷ P) G e h =
+    let k = or-no (named P n) (eqb (m .1) n) e in (
+      named-put n d P (m .0) ∙ or-left (named P (m .0)) (eqb n (m .0)) (G .0),
+      named-put n d P (m .1) ∙ rw (G .1) (ne-eqb n (m .1) (λ q. eqb-false (m .1) n (k .1) (sym q))),
+      good-put n d P (G .2) (k .0) (omega arith),
+    )
+
+pub good-insert : (n x : ℕ) (P : List Merge) → Good P → ((y : ℕ) → y < n → named P y ≡ true) → named P n ≡ false → (n ≤ x → x - n < length P) → Good (insert n x P)
+unfolding insert Good
+good-insert n x P G f e h = go (ltb x n) refl
+  where
+    go : (b : Bool) → ltb x n ≡ b → Good (cond b ((x, n) ∷ P) (put n (x - n) P))
+    go true q = (f x (ltb-true x n q), e, G)
+    go false q = good-put n (x - n) P G e (h (ltb-false x n q))
+
+pub good : (v : ℕ → ℕ) (n : ℕ) → Bounded v n → Good (pairsOf v n)
+unfolding pairsOf Good Bounded
+good v zero ok = tt
+good v (suc zero) ok = tt
+good v (suc (suc m)) ok =
+    good-insert (suc m) (v (suc m)) (pairsOf v (suc m)) (good v (suc m) (λ i h. ok i (omega arith))) (named-all v (suc m))
+    (named-under (suc m) (pairsOf v (suc m)) (omega arith) (under-pairs v (suc m)))
+    (λ h. omega (arith, ok (suc m) (omega arith), pairs-length v m))
+
+-- the smaller name first
+unfoldable pub Rising : List Merge → Type 0
+Rising [] = Unit {0}
+Rising (m ∷ P) = (m .0 < m .1) × Rising P
+
+pub rising-put : (n d : ℕ) (P : List Merge) → Under n P → Rising P → d < length P → Rising (put n d P)
+unfolding Rising put Under
+rising-put n d [] u g h = absurd (omega arith)
+rising-put n zero (m ∷ P) u g h = let a = u .0 in let b = g .0 in (b, (omega arith, g .1))
+rising-put n (suc d) (m ∷ P) u g h = (g .0, rising-put n d P (u .1) (g .1) (omega arith))
+
+pub rising-insert : (n x : ℕ) (P : List Merge) → Under n P → Rising P → (n ≤ x → x - n < length P) → Rising (insert n x P)
+unfolding Rising insert
+rising-insert n x P u g h = go (ltb x n) refl
+  where
+    go : (b : Bool) → ltb x n ≡ b → Rising (cond b ((x, n) ∷ P) (put n (x - n) P))
+    go true q = (ltb-true x n q, g)
+    go false q = rising-put n (x - n) P u g (h (ltb-false x n q))
+
+pub rising : (v : ℕ → ℕ) (n : ℕ) → Bounded v n → Rising (pairsOf v n)
+unfolding pairsOf Rising Bounded
+rising v zero ok = tt
+rising v (suc zero) ok = tt
+rising v (suc (suc m)) ok =
+    rising-insert (suc m) (v (suc m)) (pairsOf v (suc m)) (under-pairs v (suc m)) (rising v (suc m) (λ i h. ok i (omega arith)))
+    (λ h. omega (arith, ok (suc m) (omega arith), pairs-length v m))

@@ -1,0 +1,1 @@
+// Lists of merges: no code here; specs/ has the definitions and their laws.

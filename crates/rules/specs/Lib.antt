@@ -1,0 +1,11 @@
+pub mod Vector
+pub mod Building
+pub mod Tree
+pub mod Order
+pub mod Table
+pub mod Newick
+pub mod Record
+pub mod Shuffle
+pub mod Answer
+pub mod Calls
+pub mod Samples
