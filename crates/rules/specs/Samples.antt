@@ -1,5 +1,5 @@
 -- The marked samples of 01, proved of the definitions: one table, one statement.
--- Main results: samples-hold (the table), turned-back (every vector of up to five entries, from its tree, table and record).
+-- Main results: samples-hold (the table), worked-hold (more of them), orders-hold (which refusal comes first), texts-read (by the grammar), turned-back (every vector of up to five entries, from its tree, table and record).
 use mathlib.Core.Bool.{Bool, true, false, _&&_}
 use mathlib.Core.List.{List, [], _∷_, _++_, map, flatMap}
 use mathlib.Core.Path.{_≡_, refl}
@@ -8,7 +8,7 @@ use Prim.Native.Nat.{ℕ, zero, suc, _≤_}
 use Prim.Native.String.{String, [] as []ˢ, _∷_ as _∷ˢ_}
 use native.Mathlib.Bridge.{le-by-compare, IsLe}
 use lib.Dec.{eqb}
-use lib.ListN.{length}
+use lib.ListN.{length, replicate}
 use Rattle.rules.specs.Building.{below}
 use Rattle.rules.specs.Vector.{bound}
 use Rattle.rules.specs.Tree.{Tree, leaf, node, treeOf}
@@ -24,52 +24,87 @@ abbrev bytes : String → List ℕ
 bytes []ˢ = []
 bytes (c ∷ˢ s) = code c ∷ bytes s
 
--- What a line of 01's samples says.
-data Sample : Type 0 where
-  text-of : List ℕ → String → Sample
-  record-of : List ℕ → List ℕ → Sample
-  table-of : List ℕ → List ℕ → Sample
-  rows-give : ℕ → List ℕ → List ℕ → Sample
-  shuffling : List ℕ → List ℕ → List ℕ → Sample
-  relabelling : List ℕ → List ℕ → List ℕ → Sample
-  vector-passes : List ℕ → Sample
-  vector-refused : List ℕ → ℕ → ℕ → Sample
-  record-refused : List ℕ → ℕ → ℕ → Sample
+-- A line of the samples: what the definitions make of an input, and what 01 says that it gives.
+abbrev Line : Type 0
+Line = Made × Made
 
--- each text and record is the one of its vector, and gives the vector back
-abbrev Holds : Sample → Type 0
-Holds (text-of v s) = (toText v ≡ made (bytes s)) × FromText (bytes s) (made v)
-Holds (record-of v r) = (pack v ≡ made r) × (unpack r ≡ made v)
-Holds (table-of v xs) = (toTable v ≡ made xs) × (fromTable (length v) xs ≡ made v)
-Holds (rows-give n xs v) = fromTable n xs ≡ made v
-Holds (shuffling v p w) = (shuffleNew v ≡ made p) × (shuffleVector v ≡ made w)
-Holds (relabelling v p w) = relabel v p ≡ made w
-Holds (vector-passes v) = check v ≡ made []
-Holds (vector-refused v k p) = check v ≡ refuses k p
-Holds (record-refused r k p) = unpack r ≡ refuses k p
-
-abbrev All : List Sample → Type 0
-All [] = Unit {0}
-All (s ∷ ss) = Holds s × All ss
-
--- 01, "Samples to prove and to run"
-abbrev samples : List Sample
+-- 01, "Samples to prove and to run": the marked ones, each turned back too, the rows in the sender's order, and what is refused
+-- (texts that are refused are not here: nothing computes there, see Newick.BreaksAt).
+abbrev samples : List Line
 samples =
-    text-of (0 ∷ []) "0;" ∷ record-of (0 ∷ []) (0x00 ∷ 0x20 ∷ [])
-    ∷ text-of (0 ∷ 0 ∷ []) "(0,1);" ∷ record-of (0 ∷ 0 ∷ []) (0x00 ∷ 0x40 ∷ [])
-    ∷ text-of (0 ∷ 0 ∷ 2 ∷ []) "((0,1),2);" ∷ record-of (0 ∷ 0 ∷ 2 ∷ []) (0x00 ∷ 0x70 ∷ [])
-    ∷ text-of (0 ∷ 0 ∷ 1 ∷ 2 ∷ []) "(0,(1,(2,3)));"
-    ∷ text-of (0 ∷ 0 ∷ 1 ∷ 4 ∷ []) "((0,(1,2)),3);" ∷ record-of (0 ∷ 0 ∷ 1 ∷ 4 ∷ []) (0x00 ∷ 0x8C ∷ [])
-    ∷ text-of (0 ∷ 0 ∷ 2 ∷ 1 ∷ []) "((0,(1,3)),2);" ∷ record-of (0 ∷ 0 ∷ 2 ∷ 1 ∷ []) (0x00 ∷ 0x91 ∷ [])
-    ∷ text-of (0 ∷ 0 ∷ 1 ∷ 3 ∷ []) "(0,((1,2),3));"
-    ∷ text-of (0 ∷ 0 ∷ 2 ∷ 2 ∷ []) "((0,1),(2,3));"
-    ∷ table-of (0 ∷ 0 ∷ 1 ∷ 4 ∷ []) (1 ∷ 2 ∷ 4 ∷ 0 ∷ 4 ∷ 5 ∷ 5 ∷ 3 ∷ 6 ∷ [])
-    ∷ rows-give 4 (1 ∷ 0 ∷ 4 ∷ 3 ∷ 2 ∷ 5 ∷ 5 ∷ 4 ∷ 6 ∷ []) (0 ∷ 0 ∷ 2 ∷ 2 ∷ [])
-    ∷ table-of (0 ∷ 0 ∷ 2 ∷ 2 ∷ []) (2 ∷ 3 ∷ 4 ∷ 0 ∷ 1 ∷ 5 ∷ 5 ∷ 4 ∷ 6 ∷ [])
-    ∷ shuffling (0 ∷ 0 ∷ 2 ∷ 1 ∷ []) (0 ∷ 2 ∷ 1 ∷ 3 ∷ []) (0 ∷ 0 ∷ 0 ∷ 2 ∷ [])
-    ∷ relabelling (0 ∷ 0 ∷ 1 ∷ 4 ∷ []) (1 ∷ 0 ∷ 2 ∷ 3 ∷ []) (0 ∷ 0 ∷ 0 ∷ 4 ∷ [])
-    ∷ vector-refused (0 ∷ 1 ∷ []) 4 1 ∷ vector-refused (0 ∷ 0 ∷ 3 ∷ []) 4 2 ∷ vector-passes (0 ∷ 0 ∷ 2 ∷ [])
-    ∷ vector-refused [] 1 0 ∷ record-refused (0x00 ∷ 0x41 ∷ []) 10 1 ∷ []
+    (toText (0 ∷ []), made (bytes "0;"))
+    ∷ (toText (0 ∷ 0 ∷ []), made (bytes "(0,1);"))
+    ∷ (toText (0 ∷ 0 ∷ 2 ∷ []), made (bytes "((0,1),2);"))
+    ∷ (toText (0 ∷ 0 ∷ 1 ∷ 2 ∷ []), made (bytes "(0,(1,(2,3)));"))
+    ∷ (toText (0 ∷ 0 ∷ 1 ∷ 4 ∷ []), made (bytes "((0,(1,2)),3);"))
+    ∷ (toText (0 ∷ 0 ∷ 2 ∷ 1 ∷ []), made (bytes "((0,(1,3)),2);"))
+    ∷ (toText (0 ∷ 0 ∷ 1 ∷ 3 ∷ []), made (bytes "(0,((1,2),3));"))
+    ∷ (toText (0 ∷ 0 ∷ 2 ∷ 2 ∷ []), made (bytes "((0,1),(2,3));"))
+    ∷ (pack (0 ∷ []), made (0x00 ∷ 0x20 ∷ []))
+    ∷ (pack (0 ∷ 0 ∷ []), made (0x00 ∷ 0x40 ∷ []))
+    ∷ (pack (0 ∷ 0 ∷ 2 ∷ []), made (0x00 ∷ 0x70 ∷ []))
+    ∷ (pack (0 ∷ 0 ∷ 1 ∷ 4 ∷ []), made (0x00 ∷ 0x8C ∷ []))
+    ∷ (pack (0 ∷ 0 ∷ 2 ∷ 1 ∷ []), made (0x00 ∷ 0x91 ∷ []))
+    ∷ (unpack (0x00 ∷ 0x20 ∷ []), made (0 ∷ []))
+    ∷ (unpack (0x00 ∷ 0x40 ∷ []), made (0 ∷ 0 ∷ []))
+    ∷ (unpack (0x00 ∷ 0x70 ∷ []), made (0 ∷ 0 ∷ 2 ∷ []))
+    ∷ (unpack (0x00 ∷ 0x8C ∷ []), made (0 ∷ 0 ∷ 1 ∷ 4 ∷ []))
+    ∷ (unpack (0x00 ∷ 0x91 ∷ []), made (0 ∷ 0 ∷ 2 ∷ 1 ∷ []))
+    ∷ (toTable (0 ∷ 0 ∷ 1 ∷ 4 ∷ []), made (1 ∷ 2 ∷ 4 ∷ 0 ∷ 4 ∷ 5 ∷ 5 ∷ 3 ∷ 6 ∷ []))
+    ∷ (fromTable 4 (1 ∷ 2 ∷ 4 ∷ 0 ∷ 4 ∷ 5 ∷ 5 ∷ 3 ∷ 6 ∷ []), made (0 ∷ 0 ∷ 1 ∷ 4 ∷ []))
+    ∷ (fromTable 4 (1 ∷ 0 ∷ 4 ∷ 3 ∷ 2 ∷ 5 ∷ 5 ∷ 4 ∷ 6 ∷ []), made (0 ∷ 0 ∷ 2 ∷ 2 ∷ []))
+    ∷ (toTable (0 ∷ 0 ∷ 2 ∷ 2 ∷ []), made (2 ∷ 3 ∷ 4 ∷ 0 ∷ 1 ∷ 5 ∷ 5 ∷ 4 ∷ 6 ∷ []))
+    ∷ (shuffleNew (0 ∷ 0 ∷ 2 ∷ 1 ∷ []), made (0 ∷ 2 ∷ 1 ∷ 3 ∷ []))
+    ∷ (shuffleVector (0 ∷ 0 ∷ 2 ∷ 1 ∷ []), made (0 ∷ 0 ∷ 0 ∷ 2 ∷ []))
+    ∷ (relabel (0 ∷ 0 ∷ 1 ∷ 4 ∷ []) (1 ∷ 0 ∷ 2 ∷ 3 ∷ []), made (0 ∷ 0 ∷ 0 ∷ 4 ∷ []))
+    ∷ (check (0 ∷ 1 ∷ []), refuses 4 1)
+    ∷ (check (0 ∷ 0 ∷ 3 ∷ []), refuses 4 2)
+    ∷ (check (0 ∷ 0 ∷ 2 ∷ []), made [])
+    ∷ (check [], refuses 1 0)
+    ∷ (unpack (0x00 ∷ 0x41 ∷ []), refuses 10 1)
+    ∷ []
+
+samples-hold : map (λ l. l .0) samples ≡ map (λ l. l .1) samples
+unfolding check toTable fromTable toText pack unpack shuffleNew shuffleVector relabel
+samples-hold = refl
+
+-- Worked by hand from 01's words: a queue that is no stack, and permutations that are not their own inverses.
+abbrev worked : List Line
+worked =
+    (toText (0 ∷ 0 ∷ 2 ∷ 4 ∷ 3 ∷ []), made (bytes "(((0,1),2),(3,4));"))
+    ∷ (shuffleNew (0 ∷ 0 ∷ 2 ∷ 4 ∷ 3 ∷ []), made (0 ∷ 4 ∷ 2 ∷ 1 ∷ 3 ∷ []))
+    ∷ (shuffleVector (0 ∷ 0 ∷ 2 ∷ 4 ∷ 3 ∷ []), made (0 ∷ 0 ∷ 0 ∷ 1 ∷ 0 ∷ []))
+    ∷ (relabel (0 ∷ 0 ∷ 2 ∷ []) (1 ∷ 2 ∷ 0 ∷ []), made (0 ∷ 0 ∷ 1 ∷ []))
+    ∷ []
+
+worked-hold : map (λ l. l .0) worked ≡ map (λ l. l .1) worked
+unfolding toText shuffleNew shuffleVector relabel
+worked-hold = refl
+
+-- Where two refusals would do, 01's "Order" decides.
+abbrev orders : List Line
+orders =
+    (check (replicate 1025 1), refuses 1 0)
+    ∷ (relabel (0 ∷ 1 ∷ []) [], refuses 4 1)
+    ∷ (relabel (0 ∷ 0 ∷ []) (2 ∷ []), refuses 2 2)
+    ∷ (relabel (0 ∷ 0 ∷ []) (0 ∷ 0 ∷ []), refuses 11 1)
+    ∷ (fromTable 0 (0 ∷ []), refuses 1 0)
+    ∷ (fromTable 4294967295 [], refuses 1 0)
+    ∷ (fromTable 2 (5 ∷ 5 ∷ 5 ∷ 5 ∷ []), refuses 2 3)
+    ∷ (fromTable 2 (5 ∷ 5 ∷ 5 ∷ []), refuses 5 0)
+    ∷ (fromTable 2 (65535 ∷ 65535 ∷ 2 ∷ []), refuses 6 0)
+    ∷ (fromTable 2 (1 ∷ 1 ∷ 2 ∷ []), refuses 7 0)
+    ∷ (fromTable 3 (0 ∷ 0 ∷ 3 ∷ 0 ∷ 9 ∷ 9 ∷ []), refuses 7 0)
+    ∷ (fromTable 3 (0 ∷ 1 ∷ 3 ∷ 0 ∷ 2 ∷ 4 ∷ []), refuses 7 1)
+    ∷ (unpack (0x00 ∷ []), refuses 2 2)
+    ∷ (unpack (0x00 ∷ 0x00 ∷ 0x00 ∷ []), refuses 1 0)
+    ∷ (unpack (0x00 ∷ 0x7F ∷ 0x00 ∷ []), refuses 2 2)
+    ∷ (unpack (0x00 ∷ 0x7F ∷ []), refuses 4 2)
+    ∷ []
+
+orders-hold : map (λ l. l .0) orders ≡ map (λ l. l .1) orders
+unfolding check fromTable unpack relabel
+orders-hold = refl
 
 -- the labels of the samples, as nodes
 node-0 : {d : ℕ} → Node d (48 ∷ []) (leaf 0)
@@ -87,63 +122,37 @@ node-3 : {d : ℕ} → Node d (51 ∷ []) (leaf 3)
 unfolding allDigits valueFrom IsLe
 node-3 = label (number 51 [] refl refl (le-by-compare 0 3 tt))
 
-samples-hold : All samples
-unfolding check toTable fromTable toText fromLabels pack unpack shuffleNew shuffleVector relabel pairText IsLe
-samples-hold = (
-  (refl, reads-as _ (le-by-compare 2 6056 tt) (text node-0)),
-  (
-    (refl, refl),
-    (
-      (refl, reads-as _ (le-by-compare 6 6056 tt) (text (pair node-0 node-1))),
-      (
-        (refl, refl),
-        (
-          (refl, reads-as _ (le-by-compare 10 6056 tt) (text (pair (pair node-0 node-1) node-2))),
-          (
-            (refl, refl),
-            (
-              (refl, reads-as _ (le-by-compare 14 6056 tt) (text (pair node-0 (pair node-1 (pair node-2 node-3))))),
-              (
-                (refl, reads-as _ (le-by-compare 14 6056 tt) (text (pair (pair node-0 (pair node-1 node-2)) node-3))),
-                (
-                  (refl, refl),
-                  (
-                    (refl, reads-as _ (le-by-compare 14 6056 tt) (text (pair (pair node-0 (pair node-1 node-3)) node-2))),
-                    (
-                      (refl, refl),
-                      (
-                        (refl, reads-as _ (le-by-compare 14 6056 tt) (text (pair node-0 (pair (pair node-1 node-2) node-3)))),
-                        (
-                          (refl, reads-as _ (le-by-compare 14 6056 tt) (text (pair (pair node-0 node-1) (pair node-2 node-3)))),
-                          (
-                            (refl, refl),
-                            (
-                              refl,
-                              (
-                                (refl, refl),
-                                (
-                                  (refl, refl),
-                                  (
-                                    refl,
-                                    (refl, (refl, (refl, (refl, (refl, tt))))),
-                                  ),
-                                ),
-                              ),
-                            ),
-                          ),
-                        ),
-                      ),
-                    ),
-                  ),
-                ),
-              ),
-            ),
-          ),
-        ),
-      ),
-    ),
-  ),
-)
+-- Texts and what they give: the marked texts give their vectors back, and a label used before is refused.
+data AllRead : List (String × Made) → Type 0 where
+  end : AllRead []
+  line : {s : String} {m : Made} {rest : List (String × Made)} → FromText (bytes s) m → AllRead rest → AllRead ((s, m) ∷ rest)
+
+abbrev texts : List (String × Made)
+texts =
+    ("0;", made (0 ∷ []))
+    ∷ ("(0,1);", made (0 ∷ 0 ∷ []))
+    ∷ ("((0,1),2);", made (0 ∷ 0 ∷ 2 ∷ []))
+    ∷ ("(0,(1,(2,3)));", made (0 ∷ 0 ∷ 1 ∷ 2 ∷ []))
+    ∷ ("((0,(1,2)),3);", made (0 ∷ 0 ∷ 1 ∷ 4 ∷ []))
+    ∷ ("((0,(1,3)),2);", made (0 ∷ 0 ∷ 2 ∷ 1 ∷ []))
+    ∷ ("(0,((1,2),3));", made (0 ∷ 0 ∷ 1 ∷ 3 ∷ []))
+    ∷ ("((0,1),(2,3));", made (0 ∷ 0 ∷ 2 ∷ 2 ∷ []))
+    ∷ ("(0,0);", refuses 9 3)
+    ∷ []
+
+texts-read : AllRead texts
+unfolding fromLabels pairText IsLe
+texts-read =
+    line (reads-as _ (le-by-compare 2 6056 tt) (text node-0))
+    (line (reads-as _ (le-by-compare 6 6056 tt) (text (pair node-0 node-1)))
+    (line (reads-as _ (le-by-compare 10 6056 tt) (text (pair (pair node-0 node-1) node-2)))
+    (line (reads-as _ (le-by-compare 14 6056 tt) (text (pair node-0 (pair node-1 (pair node-2 node-3)))))
+    (line (reads-as _ (le-by-compare 14 6056 tt) (text (pair (pair node-0 (pair node-1 node-2)) node-3)))
+    (line (reads-as _ (le-by-compare 14 6056 tt) (text (pair (pair node-0 (pair node-1 node-3)) node-2)))
+    (line (reads-as _ (le-by-compare 14 6056 tt) (text (pair node-0 (pair (pair node-1 node-2) node-3))))
+    (line (reads-as _ (le-by-compare 14 6056 tt) (text (pair (pair node-0 node-1) (pair node-2 node-3))))
+    (line (reads-as _ (le-by-compare 6 6056 tt) (text (pair node-0 node-0)))
+    end))))))))
 
 -- the vectors of n entries
 vectors : ℕ → List (List ℕ)
