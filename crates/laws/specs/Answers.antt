@@ -1,0 +1,59 @@
+-- Two answers that read alike are the same answer, so that a promise about what an answer reads as fixes the answer.
+-- Main results: number-unique, reads-unique.
+use mathlib.Core.Bool.{Bool, true, false, cond}
+use mathlib.Core.List.{List}
+use mathlib.Core.Path.{_≡_, refl, sym, ap, _∙_}
+use Prim.Native.Nat.{ℕ}
+use lib.Dec.{eqb}
+use Rattle.rules.specs.Answer.{Outcome, done, refused, numberOf, reads}
+use Rattle.rules.specs.declared.Kind.{Kind}
+use Rattle.rules.specs.declared.Kind.the-variants.{LeafCount, InputLength, Room, Entry, Parent, Child, NamedBefore, Grammar, Label, Padding, Permutation}
+use Rattle.rules.specs.declared.Refusal.{Refusal}
+use Rattle.rules.specs.declared.Answer.{Answer}
+use Rattle.rules.specs.declared.Answer.the-variants.{Done, Refused}
+
+-- the kind of a number
+kindOf : ℕ → Kind
+kindOf k =
+    cond (eqb k 1) LeafCount
+    (cond (eqb k 2) InputLength
+    (cond (eqb k 3) Room
+    (cond (eqb k 4) Entry
+    (cond (eqb k 5) Parent
+    (cond (eqb k 6) Child
+    (cond (eqb k 7) NamedBefore
+    (cond (eqb k 8) Grammar
+    (cond (eqb k 9) Label
+    (cond (eqb k 10) Padding Permutation)))))))))
+
+kind-of-number : (k : Kind) → kindOf (numberOf k) ≡ k
+unfolding kindOf numberOf
+kind-of-number LeafCount = refl
+kind-of-number InputLength = refl
+kind-of-number Room = refl
+kind-of-number Entry = refl
+kind-of-number Parent = refl
+kind-of-number Child = refl
+kind-of-number NamedBefore = refl
+kind-of-number Grammar = refl
+kind-of-number Label = refl
+kind-of-number Padding = refl
+kind-of-number Permutation = refl
+
+-- no two kinds have one number
+pub number-unique : (k l : Kind) → numberOf k ≡ numberOf l → k ≡ l
+number-unique k l e = sym (kind-of-number k) ∙ ap kindOf e ∙ kind-of-number l
+
+-- the answer of an outcome
+answerOf : Outcome → Answer
+answerOf (done k) = Done k
+answerOf (refused number place) = Refused (record { kind = kindOf number; place = place })
+
+answer-of-reads : (a : Answer) → answerOf (reads a) ≡ a
+unfolding answerOf reads
+answer-of-reads (Done k) = refl
+answer-of-reads (Refused r) = ap (λ (k : Kind). Refused (record { kind = k; place = r .place })) (kind-of-number (r .kind))
+
+-- "That two results satisfying it are equal is itself proved": what an answer reads as fixes it
+pub reads-unique : (a b : Answer) → reads a ≡ reads b → a ≡ b
+reads-unique a b e = sym (answer-of-reads a) ∙ ap answerOf e ∙ answer-of-reads b

@@ -1,0 +1,1 @@
+// The laws of the rules: no code here; specs/ has the theorems.

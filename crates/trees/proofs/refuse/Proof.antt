@@ -1,0 +1,15 @@
+use native.Mathlib.Omega.{arith}
+use borrow.Author.Needs.{needs}
+use Rattle.rules.specs.Answer as answers
+use Rattle.trees.proofs.refuse.Statement.{statement}
+use Rattle.trees.proofs.refuse.Tie as tie
+use Rattle.trees.proofs.refuse.Reads as reads
+use Rattle.trees.proofs.refuse.Lts as lts
+
+-- src/lib.rt:31:1
+returns : tie.Need-returns
+unfolding answers.reads answers.numberOf
+returns c = search needs
+
+pub refuse-spec : {M : Type 1} → statement M
+refuse-spec = tie.close (tie.spec returns)

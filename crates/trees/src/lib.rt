@@ -1,0 +1,38 @@
+// The public calls. Each promises its answer and every element of every lent buffer, for all inputs, in the words of the crate
+// `rules`: what the call makes of its input (Calls), what comes back of that (answer), what the buffer then holds (after).
+use rules::Answer;
+use rules::Kind;
+use rules::Refusal;
+
+ghost use mathlib.Core.Path.{_≡_};
+ghost use lib.ListN.{length};
+ghost use Rattle.rules.specs.Answer.{refused, numberOf, reads, answer, after};
+ghost use Rattle.rules.specs.Calls as calls;
+
+// Whether v is a vector: 1, 4.
+pub fn check(v: &[u16]) -> Answer
+    ensures { λ r. ⌜ reads r ≡ answer (calls.check (now (v .entry))) 0 ⌝ }
+{
+    let n = v.len();
+    if n == 0 {
+        return refuse(Kind::LeafCount, 0);
+    }
+    if 1024 < n {
+        return refuse(Kind::LeafCount, 0);
+    }
+    let i = vector::first_fault(v);
+    if i < n {
+        return refuse(Kind::Entry, i);
+    }
+    Answer::Done(0)
+}
+
+// The refusal of a kind at a place.
+fn refuse(kind: Kind, place: usize) -> Answer
+    ensures { λ r. ⌜ reads r ≡ refused (numberOf kind) place ⌝ }
+{
+    Answer::Refused(Refusal {
+        kind: kind,
+        place: place,
+    })
+}

@@ -1,0 +1,131 @@
+-- The first entry above its bound, as a number.
+-- Main definition: firstFault. Main results: no-fault-valid, valid-no-fault, first-fault-none, first-fault-some, fault-inside.
+use mathlib.Core.Path.{_≡_, refl, sym, ap, _∙_}
+use mathlib.Core.Bool.{Bool, true, false, cond}
+use mathlib.Core.List.{List, [], _∷_}
+use mathlib.Core.Option.{Option, none, some, Option·getD, Option·some-injective, Option·none-ne-some, Option·some-ne-none}
+use Prim.Native.Nat.{ℕ, zero, suc, _+_, _-_, _*_, _≤_, _<_}
+use native.Mathlib.Numerals.{add-one}
+use native.Mathlib.Omega.{arith}
+use lib.Dec.{ltb}
+use lib.ListN.{length, getD, drop}
+use lib.Seq.{drop-cons, drop-length}
+use borrow.Author.Tests.{ltb-true, ltb-false, lt-ltb, le-ltb}
+use Rattle.rules.specs.Vector.{entry, bound, Valid, fault}
+
+-- the number of the first entry above its bound, and the number of entries where there is none
+unfoldable pub firstFault : List ℕ → ℕ
+firstFault v = Option·getD (fault 0 v) (length v)
+
+-- a fault is the number of an entry
+pub fault-inside : (i : ℕ) (v : List ℕ) (p : ℕ) → fault i v ≡ some p → (i ≤ p) × (p < i + length v)
+unfolding fault
+fault-inside i [] p e = absurd (Option·none-ne-some p e)
+fault-inside i (x ∷ v) p e = go (ltb (bound i) x) (fault-inside (i + 1) v p) e
+  where
+    go : (b : Bool) → (fault (i + 1) v ≡ some p → (i + 1 ≤ p) × (p < i + 1 + length v)) → cond b (some i) (fault (i + 1) v) ≡ some p → (i ≤ p) × (p < i + suc (length v))
+    go true ih q = let z : i ≡ p = Option·some-injective i p q in (omega arith, omega arith)
+    go false ih q = let z = ih q in (omega arith, omega arith)
+
+-- an entry above its bound
+pub fault-above : (i : ℕ) (v : List ℕ) (p : ℕ) → fault i v ≡ some p → bound p < entry v (p - i)
+unfolding fault entry
+fault-above i [] p e = absurd (Option·none-ne-some p e)
+fault-above i (x ∷ v) p e = go (ltb (bound i) x) refl (fault-inside (i + 1) v p) (fault-above (i + 1) v p) e
+  where
+    go : (b : Bool) → ltb (bound i) x ≡ b → (fault (i + 1) v ≡ some p → (i + 1 ≤ p) × (p < i + 1 + length v))
+        → (fault (i + 1) v ≡ some p → bound p < getD v (p - (i + 1)) 0)
+        → cond b (some i) (fault (i + 1) v) ≡ some p → bound p < getD (x ∷ v) (p - i) 0
+    go true t l ih q =
+        let z : i ≡ p = Option·some-injective i p q in
+        let k : p - i ≡ 0 = omega arith in
+        rw (k, ← z) (ltb-true (bound i) x t)
+    go false t l ih q = let m = l q in let k : p - i ≡ suc (p - (i + 1)) = omega arith in rw k (ih q)
+
+-- where there is no fault each entry is within its bound
+pub no-fault-bounded : (i : ℕ) (v : List ℕ) → fault i v ≡ none → (k : ℕ) → k < length v → entry v k ≤ bound (i + k)
+unfolding fault entry
+no-fault-bounded i [] e k h = absurd (omega arith)
+no-fault-bounded i (x ∷ v) e k h = go (ltb (bound i) x) refl (no-fault-bounded (i + 1) v) e k h
+  where
+    go : (b : Bool) → ltb (bound i) x ≡ b → (fault (i + 1) v ≡ none → (j : ℕ) → j < length v → getD v j 0 ≤ bound (i + 1 + j))
+        → cond b (some i) (fault (i + 1) v) ≡ none → (j : ℕ) → j < suc (length v) → getD (x ∷ v) j 0 ≤ bound (i + j)
+    go true t ih q j l = absurd (Option·some-ne-none i q)
+    go false t ih q zero l = let z : i + 0 ≡ i = omega arith in rw z (ltb-false (bound i) x t)
+    go false t ih q (suc j) l = let z : i + suc j ≡ i + 1 + j = omega arith in rw z (ih q j (omega arith))
+
+pub bounded-no-fault : (i : ℕ) (v : List ℕ) → ((k : ℕ) → k < length v → entry v k ≤ bound (i + k)) → fault i v ≡ none
+unfolding fault entry
+bounded-no-fault i [] h = refl
+bounded-no-fault i (x ∷ v) h =
+    let z : i + 0 ≡ i = omega arith in
+    let l : x ≤ bound i = rw z at (h 0 (omega arith)) in
+    rw (le-ltb (bound i) x l)
+    (bounded-no-fault (i + 1) v (λ k g. let y : i + 1 + k ≡ i + suc k = omega arith in rw y (h (suc k) (omega arith))))
+
+pub no-fault-valid : (v : List ℕ) → 1 ≤ length v → fault 0 v ≡ none → Valid v
+no-fault-valid v h e = record { some-leaf = h; bounded = λ i l. let z : 0 + i ≡ i = omega arith in rw z at (no-fault-bounded 0 v e i l) }
+
+pub valid-no-fault : (v : List ℕ) → Valid v → fault 0 v ≡ none
+valid-no-fault v ok = bounded-no-fault 0 v (λ k l. let z : 0 + k ≡ k = omega arith in rw z (ok .bounded k l))
+
+-- what the number says
+pub first-fault-none : (v : List ℕ) → length v ≤ firstFault v → fault 0 v ≡ none
+unfolding firstFault
+first-fault-none v h = go (fault 0 v) refl h
+  where
+    go : (o : Option ℕ) → fault 0 v ≡ o → length v ≤ Option·getD o (length v) → o ≡ none
+    go none q l = refl
+    go (some p) q l = absurd (omega (arith, fault-inside 0 v p q))
+
+pub first-fault-some : (v : List ℕ) → firstFault v < length v → fault 0 v ≡ some (firstFault v)
+unfolding firstFault
+first-fault-some v h = go (fault 0 v) h
+  where
+    go : (o : Option ℕ) → Option·getD o (length v) < length v → o ≡ some (Option·getD o (length v))
+    go none l = absurd (omega arith)
+    go (some p) l = refl
+
+-- the loop of the check: no fault before entry i
+pub record Passed (v : List ℕ) (i : ℕ) : Type 0 where
+  pub few : length v ≤ 1024
+  pub low : 1 ≤ i
+  pub high : i ≤ length v
+  pub rest : fault 0 v ≡ fault i (drop i v)
+
+pub passed-start : (v : List ℕ) → length v ≤ 1024 → 0 < length v → getD v 0 0 ≤ 0 → Passed v 1
+unfolding fault
+passed-start [] few h l = absurd (omega arith)
+passed-start (x ∷ v) few h l = record { few = few; low = omega arith; high = omega arith; rest = rw (le-ltb (2 * (0 - 1)) x (omega arith)) refl }
+
+pub passed-next : {v : List ℕ} {i : ℕ} → Passed v i → i < length v → getD v i 0 ≤ 2 * (i - 1) → Passed v (i + 1)
+unfolding fault
+passed-next {v} {i} P h l = record {
+  few = P .few;
+  low = omega arith;
+  high = omega arith;
+  rest = P .rest ∙ rw (drop-cons v i 0 h, le-ltb (2 * (i - 1)) (getD v i 0) l, add-one i);
+}
+
+pub passed-here : {v : List ℕ} {i : ℕ} → Passed v i → i < length v → 2 * (i - 1) < getD v i 0 → i ≡ firstFault v
+unfolding fault firstFault
+passed-here {v} {i} P h l =
+    let e : fault 0 v ≡ some i = P .rest ∙ rw (drop-cons v i 0 h, lt-ltb (2 * (i - 1)) (getD v i 0) l) in
+    rw e
+
+pub passed-end : {v : List ℕ} {i : ℕ} → Passed v i → length v ≤ i → length v ≡ firstFault v
+unfolding fault firstFault
+passed-end {v} {i} P h =
+    let z : i ≡ length v = omega arith in
+    let e : fault 0 v ≡ none = P .rest ∙ rw (z, drop-length v) in
+    rw e
+
+pub first-above : (v : List ℕ) → 0 < length v → 0 < getD v 0 0 → 0 ≡ firstFault v
+unfolding fault firstFault
+first-above [] h l = absurd (omega arith)
+first-above (x ∷ v) h l = rw (lt-ltb (2 * (0 - 1)) x (omega arith))
+
+pub empty-fault : (v : List ℕ) → length v ≡ 0 → 0 ≡ firstFault v
+unfolding fault firstFault
+empty-fault [] e = refl
+empty-fault (x ∷ v) e = absurd (omega arith)
