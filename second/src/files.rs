@@ -1,0 +1,102 @@
+//! The inputs and expected outputs of the programs that are run and compared.
+//!
+//! 01: "run and compared with an independent second program."
+
+use crate::{cases, every, listing, run, samples, stream};
+use std::fs;
+use std::io;
+use std::path::Path;
+
+/// The listing program gets every name that begins with `listing`; the other
+/// names are programs of their own.
+pub const NAMES: [&str; 8] = [
+    "samples",
+    "every",
+    "calls",
+    "listing",
+    "listing-sample",
+    "listing-cut",
+    "listing-leaves",
+    "listing-entry",
+];
+
+/// What the program gets on standard input.
+pub fn input(name: &str) -> Option<Vec<u8>> {
+    let input = match name {
+        "samples" | "every" => Vec::new(),
+        "calls" => stream::write(&cases::all()),
+        "listing" => cases::listings::long(),
+        "listing-sample" => samples::LISTING.to_vec(),
+        "listing-cut" => cases::listings::cut(),
+        "listing-leaves" => cases::listings::leaves(),
+        "listing-entry" => cases::listings::entry(),
+        _ => return None,
+    };
+    Some(input)
+}
+
+/// What the program must write.
+pub fn expected(name: &str) -> Option<Vec<u8>> {
+    input(name).map(|input| output(name, &input))
+}
+
+/// The output is worked out from the very bytes of the input, where there are
+/// any, so that the two cannot differ.
+fn output(name: &str, input: &[u8]) -> Vec<u8> {
+    match name {
+        "samples" => samples::lines(),
+        "every" => every::lines(),
+        "calls" => run::answers(input),
+        _ => listed(input),
+    }
+}
+
+fn listed(input: &[u8]) -> Vec<u8> {
+    let mut output = Vec::new();
+    listing::list(&mut &input[..], &mut output).expect("memory is read and written");
+    output
+}
+
+/// A file of the folder of expected results.
+pub struct File {
+    pub name: String,
+    pub contents: Vec<u8>,
+}
+
+/// The files of every name; an empty input has none.
+pub fn all() -> Vec<File> {
+    let mut files = Vec::new();
+    for name in NAMES {
+        let input = input(name).expect("every name has an input");
+        let output = output(name, &input);
+        if !input.is_empty() {
+            files.push(File { name: format!("{name}.in"), contents: input });
+        }
+        files.push(File { name: format!("{name}.out"), contents: output });
+    }
+    files
+}
+
+pub fn write(folder: &Path, files: &[File]) -> io::Result<()> {
+    fs::create_dir_all(folder)?;
+    for file in files {
+        fs::write(folder.join(&file.name), &file.contents)?;
+        println!("written {} {}", file.name, file.contents.len());
+    }
+    Ok(())
+}
+
+/// Prints a line for each file; false where one differs or is missing.
+pub fn verify(folder: &Path, files: &[File]) -> bool {
+    let mut all_same = true;
+    for file in files {
+        let word = match fs::read(folder.join(&file.name)) {
+            Ok(found) if found == file.contents => "same",
+            Ok(_) => "differs",
+            Err(_) => "missing",
+        };
+        all_same &= word == "same";
+        println!("{word} {}", file.name);
+    }
+    all_same
+}

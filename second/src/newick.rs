@@ -1,0 +1,83 @@
+//! The Newick text of a tree, and the tree of a text.
+//!
+//! 01: "We write the child with the smaller least leaf first; the reader takes
+//! either. The leaf count n is the number of labels; each of 0 to n-1 must stand
+//! once."
+
+use crate::answer::{refuse, Refusal, LABEL, LENGTH};
+use crate::grammar;
+use crate::tree::Tree;
+use crate::vector::leaf_count;
+use std::collections::BTreeSet;
+
+pub const LONGEST_TEXT: usize = 6056;
+
+/// The text that we write for a tree whose children stand as we write them, the
+/// child with the smaller least leaf first.
+pub fn text(tree: &Tree) -> String {
+    format!("{};", node(tree))
+}
+
+fn node(tree: &Tree) -> String {
+    match tree {
+        Tree::Leaf(leaf) => leaf.to_string(),
+        Tree::Pair(first, second) => format!("({},{})", node(first), node(second)),
+    }
+}
+
+/// The tree of a text, or the first refusal of the order "2 (above 6,056 bytes,
+/// place 6056), 8, 1, 9".
+pub fn read(text: &[u8]) -> Result<Tree, Refusal> {
+    if text.len() > LONGEST_TEXT {
+        return refuse(LENGTH, LONGEST_TEXT);
+    }
+    grammar::follows(text)?;
+    let text = std::str::from_utf8(text).expect("the grammar has ASCII signs only");
+    let labels = labels(text);
+    let n = leaf_count(labels.len() as u64)?;
+    let mut used = BTreeSet::new();
+    for (place, label) in labels {
+        if label >= n || !used.insert(label) {
+            return refuse(LABEL, place);
+        }
+    }
+    Ok(tree(text.trim_end_matches(';')))
+}
+
+/// Each label with the place of its first byte, in text order.
+fn labels(text: &str) -> Vec<(usize, usize)> {
+    let mut labels = Vec::new();
+    let mut place = 0;
+    for run in text.split(|sign: char| !sign.is_ascii_digit()) {
+        if !run.is_empty() {
+            labels.push((place, run.parse().expect("a label has four digits at most")));
+        }
+        // The sign behind the run is one byte.
+        place += run.len() + 1;
+    }
+    labels
+}
+
+/// The tree of a node's text: a label, or what stands before and behind the
+/// comma that no inner bracket holds.
+fn tree(node: &str) -> Tree {
+    let inner = match node.strip_prefix('(') {
+        None => return Tree::Leaf(node.parse().expect("a node without brackets is a label")),
+        Some(opened) => opened.strip_suffix(')').expect("the bracket of a node is closed"),
+    };
+    let (first, second) = inner.split_at(middle_comma(inner));
+    Tree::pair(tree(first), tree(&second[1..]))
+}
+
+fn middle_comma(inner: &str) -> usize {
+    let mut open = 0;
+    for (place, sign) in inner.char_indices() {
+        match sign {
+            '(' => open += 1,
+            ')' => open -= 1,
+            ',' if open == 0 => return place,
+            _ => {}
+        }
+    }
+    panic!("a pair has a comma between its nodes")
+}
