@@ -1,7 +1,6 @@
 // The C interface: one exported function a call. include/blathersike.h documents each.
 use rules::Answer;
 use rules::Kind;
-
 ghost use mathlib.Core.Path.{_≡_};
 ghost use lib.ListN.{length};
 ghost use Rattle.rules.specs.Answer.{reads, answer, after, numberOf};

@@ -1,2 +1,29 @@
+-- The laws of the rules, and which sentence of 01 each answers.
+--
+-- "At each step the largest i that still names a cluster and sees one labelled v(i) merges with that one."
+--     A leaf sees at most one cluster so labelled: building Labels.labels-apart. Some leaf can merge while two clusters are left:
+--     building Going.two-left-go-on.
+-- "the smallest label j has not used"
+--     building Labels.smallest-is-unused, smaller-are-used; in a run it is the next number: used-below.
+-- "After n-1 steps one cluster is left."
+--     building Going.goes-on, one-left (it is named 0), stops.
+-- "The order of merges depends on the tree alone: of the pairs whose two clusters are complete, the one whose larger name is greatest
+-- comes first."
+--     TreeOf.fact-one, equal-trees-equal-order; step by step: clades Fact1.
+-- "if s merges of two clusters both named below i came before i merged with cluster a, then v(i) = a when s = 0, else v(i) = i-1+s"
+--     FactTwo.fact-two-in-words; building Entry.fact-two.
+-- "lead to the same vector exactly when they have the same clades"
+--     OneToOne.same-clades-same-vector; clades Form.clades-up-to-turning for trees.
+-- "every rooted binary tree with leaves 0 to n-1 .. is the tree of a vector"
+--     OneToOne.every-tree, only-vector; the vector of a vector's tree: TreeOf.vector-again.
+-- "the child with the smaller least leaf first"
+--     Stands.tree-stands; the leaves of the tree: TreeOf.tree-leaves.
+-- What a shortened vector means (a later request): Shortened.shortened-valid, shortened-tree, shortened-clades.
+-- What comes back: Answers.reads-unique; FromVector has when a call that begins from a vector refuses.
 pub mod Answers
 pub mod FromVector
+pub mod TreeOf
+pub mod Stands
+pub mod FactTwo
+pub mod OneToOne
+pub mod Shortened

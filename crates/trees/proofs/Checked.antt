@@ -50,9 +50,11 @@ seen v = count (eqb (length v) 0) refl
     entries : 1 ≤ length v → length v ≤ 1024 → (o : Option ℕ) → fault 0 v ≡ o → Seen v
     entries l u (some i) e = faulty 4 i (λ m. above-bound v m i l u e)
     entries l u none e = sound (no-fault-valid v l e) u (λ m. within-bounds v m l u e)
+
     large : 1 ≤ length v → (b : Bool) → ltb 1024 (length v) ≡ b → Seen v
     large l true q = faulty 1 0 (λ m. many-leaves (length v) _ (ltb-true 1024 (length v) q))
     large l false q = entries l (ltb-false 1024 (length v) q) (fault 0 v) refl
+
     count : (b : Bool) → eqb (length v) 0 ≡ b → Seen v
     count true q = faulty 1 0 (λ m. no-leaf (length v) _ (eqb-true (length v) 0 q))
     count false q = large (omega (arith, eqb-false (length v) 0 q)) (ltb 1024 (length v)) refl

@@ -3,7 +3,6 @@
 use rules::Answer;
 use rules::Kind;
 use rules::Refusal;
-
 ghost use mathlib.Core.Path.{_≡_};
 ghost use lib.ListN.{length};
 ghost use Rattle.rules.specs.Answer.{refused, numberOf, reads, answer, after};

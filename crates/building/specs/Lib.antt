@@ -1,0 +1,9 @@
+pub mod Labels
+pub mod Next
+pub mod Built
+pub mod Going
+pub mod Listed
+pub mod Entry
+pub mod Without
+pub mod Backwards
+pub mod Shortened

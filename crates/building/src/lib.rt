@@ -1,0 +1,1 @@
+// The laws of the building rule: definitions and theorems only, no code.

@@ -1,0 +1,13 @@
+pub mod Leaves
+pub mod Same
+pub mod Form
+pub mod Grown
+pub mod Ready
+pub mod Collapse
+pub mod Graft
+pub mod Names
+pub mod OrderOf
+pub mod Count
+pub mod Fact1
+pub mod Pruned
+pub mod Shortened

@@ -1,0 +1,57 @@
+-- The tree of a vector: its leaves, how it stands, and that the building rule merges its pairs in the order that fact 1 says.
+-- Main results: tree-leaves, tree-stands, fact-one, equal-trees-equal-order, vector-again.
+use mathlib.Core.Bool.{true}
+use mathlib.Core.List.{List}
+use mathlib.Core.Path.{_≡_, refl, sym, ap, ap₂, _∙_, subst}
+use Prim.Native.Nat.{ℕ, _≤_, _<_}
+use native.Mathlib.Omega.{arith}
+use lib.Dec.{ltb}
+use lib.ListN.{length}
+use borrow.Author.Tests.{ltb-true, ltb-false}
+use Rattle.rules.specs.Vector.{Valid, entry}
+use Rattle.rules.specs.Building.{merges}
+use Rattle.rules.specs.Tree.{Tree, leaf, node, least, size, treeOf, grown, LeavesBelow, SameClades}
+use Rattle.rules.specs.Order.{order, vectorOf, listed, entryAt}
+use Rattle.merging.specs.Insertion.{pairs}
+use Rattle.building.specs.Built.{valid-bounded, merges-are-pairs}
+use Rattle.building.specs.Entry.{entries-of-merges}
+use Rattle.clades.specs.Form.{form, join, form-least}
+use Rattle.clades.specs.Count.{size-below}
+use Rattle.clades.specs.Fact1.{pairs-order, pairs-below}
+use Rattle.clades.specs.Grown.{form-grown}
+use Rattle.clades.specs.OrderOf.{same-order}
+use Rattle.merging.specs.Named.{rising}
+
+-- the tree by insertion
+pub tree-by-pairs : (v : List ℕ) → Valid v → treeOf v ≡ grown (pairs v) leaf 0
+unfolding treeOf
+tree-by-pairs v ok = rw (merges-are-pairs v ok)
+
+-- the leaves are 0 to n-1, each once
+pub tree-leaves : (v : List ℕ) → Valid v → LeavesBelow (length v) (treeOf v)
+tree-leaves v ok = rw (tree-by-pairs v ok) (pairs-below v (valid-bounded v ok) (ok .some-leaf))
+
+pub tree-size : (v : List ℕ) → Valid v → size (treeOf v) ≡ length v
+tree-size v ok = size-below (length v) (treeOf v) (tree-leaves v ok)
+
+pub tree-form : (v : List ℕ) → Valid v → form (treeOf v) ≡ treeOf v
+unfolding pairs
+tree-form v ok = rw (tree-by-pairs v ok) (form-grown (pairs v) (rising (entry v) (length v) (valid-bounded v ok)))
+
+-- Fact 1 of 01: "The order of merges depends on the tree alone: of the pairs whose two clusters are complete,
+-- the one whose larger name is greatest comes first."
+pub fact-one : (v : List ℕ) → Valid v → merges v ≡ order (treeOf v)
+fact-one v ok = rw (tree-by-pairs v ok, merges-are-pairs v ok) (sym (pairs-order v (valid-bounded v ok)))
+
+-- "depends on the tree alone": trees with the same clades have the same order of merges
+pub equal-trees-equal-order : (v w : List ℕ) → Valid v → Valid w → length v ≡ length w → SameClades (treeOf v) (treeOf w) → merges v ≡ merges w
+equal-trees-equal-order v w ok ok′ e s =
+    fact-one v ok
+    ∙ same-order (length v) (treeOf v) (treeOf w) (tree-leaves v ok) (rw e (tree-leaves w ok′)) s
+    ∙ sym (fact-one w ok′)
+
+-- the vector of a valid vector's tree is that vector
+pub vector-again : (v : List ℕ) → Valid v → vectorOf (treeOf v) ≡ v
+unfolding vectorOf
+vector-again v ok =
+    ap₂ listed (tree-size v ok) (ap entryAt (sym (fact-one v ok))) ∙ entries-of-merges v ok
