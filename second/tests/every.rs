@@ -79,7 +79,7 @@ fn tables_are_numbered_as_01_says_and_read_back() {
     }
 }
 
-/// The text, the table and the record of a vector are about one tree.
+/// "We write the child with the smaller least leaf first; the reader takes either."
 #[test]
 fn texts_are_of_the_same_tree_either_way_round() {
     for v in every_vector() {

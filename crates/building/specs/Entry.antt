@@ -26,7 +26,8 @@ unfolding earlier place Rising Under
 earlier-last n [] g u = refl
 earlier-last n (m ∷ P) g u = go (eqb n (m .1)) refl (earlier-last n P (g .1) (u .1))
   where
-    go : (b : Bool) → eqb n (m .1) ≡ b → earlier n P ≡ place n P → cond b 0 (cond (ltb (m .0) n && ltb (m .1) n) 1 0 + earlier n P) ≡ cond b 0 (suc (place n P))
+    go : (b : Bool) → eqb n (m .1) ≡ b → earlier n P ≡ place n P
+        → cond b 0 (cond (ltb (m .0) n && ltb (m .1) n) 1 0 + earlier n P) ≡ cond b 0 (suc (place n P))
     go true q ih = refl
     go false q ih =
         let a = g .0 in
@@ -65,7 +66,8 @@ unfolding partner without
 partner-without n i [] h = refl
 partner-without n i (m ∷ P) h = go (eqb n (m .1)) refl (partner-without n i P h)
   where
-    go : (b : Bool) → eqb n (m .1) ≡ b → partner i (without n P) ≡ partner i P → partner i (cond b P (m ∷ without n P)) ≡ cond (eqb i (m .1)) (m .0) (partner i P)
+    go : (b : Bool) → eqb n (m .1) ≡ b → partner i (without n P) ≡ partner i P
+        → partner i (cond b P (m ∷ without n P)) ≡ cond (eqb i (m .1)) (m .0) (partner i P)
     go true q ih = let p : n ≡ m .1 = eqb-true n (m .1) q in rw (ne-eqb i (m .1) (omega arith))
     go false q ih = rw ih
 
@@ -74,7 +76,8 @@ unfolding entryAt
 entry-without n i P h = ap₂ (entryFrom i) (partner-without n i P h) (earlier-without n i P h)
 
 -- a merge put in gives its leaf's entry back, and leaves those of the leaves below it
-pub entry-inserted : (n x : ℕ) (P : List Merge) → 1 ≤ n → Rising P → Under n P → times n P ≡ 0 → (n ≤ x → x - n < length P) → entryAt (insert n x P) n ≡ x
+pub entry-inserted : (n x : ℕ) (P : List Merge) → 1 ≤ n → Rising P → Under n P → times n P ≡ 0 → (n ≤ x → x - n < length P)
+    → entryAt (insert n x P) n ≡ x
 entry-inserted n x P h g u z f = entry-last n (insert n x P) h (rising-insert n x P u g f) (under-insert n x P u) ∙ entryIn-insert n x P z f
 
 pub entry-kept : (n x i : ℕ) (P : List Merge) → i < n → times n P ≡ 0 → (n ≤ x → x - n < length P) → entryAt (insert n x P) i ≡ entryAt P i
@@ -92,7 +95,8 @@ entry-of-pairs v (suc (suc m)) ok i h =
     less : Bounded v (suc m)
     less j l = ok j (omega arith)
 
-    go : (P : List Merge) → Rising P → Under (suc m) P → times (suc m) P ≡ 0 → (suc m ≤ v (suc m) → v (suc m) - suc m < length P) → (i < suc m → v i ≡ entryAt P i)
+    go : (P : List Merge) → Rising P → Under (suc m) P → times (suc m) P ≡ 0 → (suc m ≤ v (suc m) → v (suc m) - suc m < length P)
+        → (i < suc m → v i ≡ entryAt P i)
         → (b : Bool) → eqb i (suc m) ≡ b → v i ≡ entryAt (insert (suc m) (v (suc m)) P) i
     go P g u z f ih true q = rw (eqb-true i (suc m) q) (sym (entry-inserted (suc m) (v (suc m)) P (omega arith) g u z f))
     go P g u z f ih false q =

@@ -48,7 +48,8 @@ steps-go v n (suc k) s l t h = go (next v s n) refl (λ m. steps-go v n k (merge
         at (suc t′) h′ = ih m tail t′ (omega arith)
 
 -- the rule finds a merge in each of its n-1 steps
-pub goes-on : (v : List ℕ) → Valid v → (k : ℕ) → suc k < length v → next (entry v) (after (take k (merges v)) start) (length v) ≡ some (getD (merges v) k (0, 0))
+pub goes-on : (v : List ℕ) → Valid v → (k : ℕ) → suc k < length v
+    → next (entry v) (after (take k (merges v)) start) (length v) ≡ some (getD (merges v) k (0, 0))
 unfolding merges
 goes-on v ok k h = steps-go (entry v) (length v) (length v - 1) start (merges-length v ok) k (omega arith)
 
@@ -73,7 +74,8 @@ unfolding after times hit
 gone [] s c z = absurd (omega arith)
 gone (m ∷ P) s c z = go (eqb c (m .1)) refl z (gone P (merge s m) c)
   where
-    go : (b : Bool) → eqb c (m .1) ≡ b → cond b 1 0 + times c P ≡ 1 → (times c P ≡ 1 → (after P (merge s m)) .names c ≡ false) → (after P (merge s m)) .names c ≡ false
+    go : (b : Bool) → eqb c (m .1) ≡ b → cond b 1 0 + times c P ≡ 1 → (times c P ≡ 1 → (after P (merge s m)) .names c ≡ false)
+        → (after P (merge s m)) .names c ≡ false
     go true q z′ ih = stays-gone P (merge s m) c (unfold merge in rw q)
     go false q z′ ih = ih (omega arith)
 
@@ -112,7 +114,8 @@ alone v ok k l c h lc e =
     let z : eqb c 0 ≡ true = sym (one-left v ok c lc) ∙ rw p at e in
     omega (arith, eqb-true c 0 z)
 
-pub reached-after : (v : List ℕ) → Valid v → {s : State} → Reached (entry v) (length v) s → (k : ℕ) × (k < length v) × (s ≡ after (take k (merges v)) start)
+pub reached-after : (v : List ℕ) → Valid v → {s : State} → Reached (entry v) (length v) s
+    → (k : ℕ) × (k < length v) × (s ≡ after (take k (merges v)) start)
 unfolding after
 reached-after v ok starts = (0, ok .some-leaf, refl)
 reached-after v ok (goes {s} {m} r e) = go (reached-after v ok r)
@@ -130,7 +133,8 @@ reached-after v ok (goes {s} {m} r e) = go (reached-after v ok r)
             absurd (alone v ok (w .0) (ltb-false (suc (w .0)) (length v) q) (m .1) (omega (arith, R .seen)) (R .leaf-below) (rw (w .2) at (R .larger-names)))
 
 -- while two clusters are left some leaf can merge
-pub two-left-go-on : (v : List ℕ) → Valid v → {s : State} → Reached (entry v) (length v) s → (b c : ℕ) → b < c → c < length v → s .names b ≡ true → s .names c ≡ true
+pub two-left-go-on : (v : List ℕ) → Valid v → {s : State} → Reached (entry v) (length v) s → (b c : ℕ) → b < c → c < length v
+    → s .names b ≡ true → s .names c ≡ true
     → (m : Merge) × (next (entry v) s (length v) ≡ some m)
 two-left-go-on v ok {s} r b c lb lc nb nc = go (reached-after v ok r)
   where

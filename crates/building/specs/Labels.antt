@@ -73,7 +73,8 @@ unfolding smallestFrom
 smallest-members-below zero x y ys l h = absurd (omega arith)
 smallest-members-below (suc k) x y ys l h = go (member x ys) refl h (smallest-members-below k (x + 1) y ys)
   where
-    go : (b : Bool) → member x ys ≡ b → y < cond b (smallestFrom k (x + 1) ys) x → (x + 1 ≤ y → y < smallestFrom k (x + 1) ys → member y ys ≡ true) → member y ys ≡ true
+    go : (b : Bool) → member x ys ≡ b → y < cond b (smallestFrom k (x + 1) ys) x
+        → (x + 1 ≤ y → y < smallestFrom k (x + 1) ys → member y ys ≡ true) → member y ys ≡ true
     go true q h′ ih = same (eqb x y) refl
       where
         same : (c : Bool) → eqb x y ≡ c → member y ys ≡ true
@@ -162,7 +163,8 @@ merge-apart s A m = record {
   apart = λ j b c hb hc e. two (ltb (m .1) j) (eqb b (m .0)) (eqb c (m .0)) j b c refl refl hb hc e;
 }
   where
-    old : (p q : Bool) (j c : ℕ) → c < j → member (cond (p && q) (smallestUnused (s .used j)) (s .label j c)) (cond p (smallestUnused (s .used j) ∷ s .used j) (s .used j)) ≡ true
+    old : (p q : Bool) (j c : ℕ) → c < j
+        → member (cond (p && q) (smallestUnused (s .used j)) (s .label j c)) (cond p (smallestUnused (s .used j) ∷ s .used j) (s .used j)) ≡ true
     old true true j c h = rw (eq-eqb (smallestUnused (s .used j)) (smallestUnused (s .used j)) refl)
     old true false j c h = or-right (eqb (s .label j c) (smallestUnused (s .used j))) (member (s .label j c) (s .used j)) (A .known j c h)
     old false q j c h = A .known j c h

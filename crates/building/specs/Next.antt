@@ -17,12 +17,14 @@ unfolding sees
 sees-none s i x zero h = refl
 sees-none s i x (suc k) h = rw (ne-eqb (s .label i k) x (h k (omega arith))) (sees-none s i x k (λ c hc. h c (omega arith)))
 
-pub sees-at : (s : State) (i x a k : ℕ) → a < k → s .names a ≡ true → s .label i a ≡ x → ((c : ℕ) → c < k → c ≢ a → s .label i c ≢ x) → sees s i x k ≡ some a
+pub sees-at : (s : State) (i x a k : ℕ) → a < k → s .names a ≡ true → s .label i a ≡ x → ((c : ℕ) → c < k → c ≢ a → s .label i c ≢ x)
+    → sees s i x k ≡ some a
 unfolding sees
 sees-at s i x a zero ha al la h = absurd (omega arith)
 sees-at s i x a (suc k) ha al la h = go (eqb k a) refl (sees-at s i x a k)
   where
-    go : (b : Bool) → eqb k a ≡ b → (a < k → s .names a ≡ true → s .label i a ≡ x → ((c : ℕ) → c < k → c ≢ a → s .label i c ≢ x) → sees s i x k ≡ some a)
+    go : (b : Bool) → eqb k a ≡ b
+        → (a < k → s .names a ≡ true → s .label i a ≡ x → ((c : ℕ) → c < k → c ≢ a → s .label i c ≢ x) → sees s i x k ≡ some a)
         → sees s i x (suc k) ≡ some a
     go true q ih = rw (eqb-true k a q, la, eq-eqb x x refl, al)
     go false q ih =
@@ -102,7 +104,8 @@ unfolding next
 next-ready v s zero m e = absurd (Option·none-ne-some m e)
 next-ready v s (suc n) m e = go (cond (s .names n) (sees s n (v n) n) none) refl e (next-ready v s n m)
   where
-    go : (o : Option ℕ) → cond (s .names n) (sees s n (v n) n) none ≡ o → orBelow n o (next v s n) ≡ some m → (next v s n ≡ some m → Ready v s n m) → Ready v s (suc n) m
+    go : (o : Option ℕ) → cond (s .names n) (sees s n (v n) n) none ≡ o → orBelow n o (next v s n) ≡ some m
+        → (next v s n ≡ some m → Ready v s n m) → Ready v s (suc n) m
     go none q e′ ih = let R = ih e′ in ready-more v s n (suc n) m (omega (arith, R .leaf-below)) R
     go (some a) q e′ ih = subst (Ready v s (suc n)) (Option·some-injective (a, n) m e′) (last-ready v s n a q)
 
@@ -112,7 +115,8 @@ unfolding next
 next-largest v s zero m e p R = absurd (Option·none-ne-some m e)
 next-largest v s (suc n) m e p R = go (cond (s .names n) (sees s n (v n) n) none) refl e (λ e′ h. next-largest v s n m e′ p (ready-more v s (suc n) n p h R))
   where
-    go : (o : Option ℕ) → cond (s .names n) (sees s n (v n) n) none ≡ o → orBelow n o (next v s n) ≡ some m → (next v s n ≡ some m → p .1 < n → p .1 ≤ m .1) → p .1 ≤ m .1
+    go : (o : Option ℕ) → cond (s .names n) (sees s n (v n) n) none ≡ o → orBelow n o (next v s n) ≡ some m
+        → (next v s n ≡ some m → p .1 < n → p .1 ≤ m .1) → p .1 ≤ m .1
     go none q e′ ih = ih e′ (last-blind v s n p q R)
     go (some a) q e′ ih = let f = ap (λ (t : Merge). t .1) (Option·some-injective (a, n) m e′) in omega (arith, R .leaf-below)
 

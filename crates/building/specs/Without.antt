@@ -1,6 +1,6 @@
 -- A list of merges without that of leaf n: what it keeps, the greedy order too where that merge stood right behind one with its smaller name.
 -- Main results: times-without, rising-without, under-without, good-without, greedy-unput.
-use mathlib.Core.Path.{_≡_, refl, sym, ap, _∙_}
+use mathlib.Core.Path.{_≡_, refl, sym, _∙_}
 use mathlib.Core.Logic.{_≢_}
 use mathlib.Core.Bool.{Bool, true, false, not, _&&_, _||_, cond}
 use mathlib.Core.List.{List, [], _∷_}
@@ -134,6 +134,7 @@ unfolding without
 length-without n [] z = absurd (unfold times in omega arith)
 length-without n (m ∷ P) z = go (eqb n (m .1)) refl (length-without n P)
   where
-    go : (b : Bool) → eqb n (m .1) ≡ b → (times n P ≡ 1 → suc (length (without n P)) ≡ length P) → suc (length (cond b P (m ∷ without n P))) ≡ suc (length P)
+    go : (b : Bool) → eqb n (m .1) ≡ b → (times n P ≡ 1 → suc (length (without n P)) ≡ length P)
+        → suc (length (cond b P (m ∷ without n P))) ≡ suc (length P)
     go true q ih = refl
     go false q ih = omega (arith, ih (once-at n m P z false q))

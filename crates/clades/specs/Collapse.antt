@@ -112,7 +112,8 @@ lacks l r D x p = go (has r x) refl
     go true q = absurd (D .0 x p q)
     go false q = refl
 
-collapsed-left : (m : Merge) (l r u : Tree) → Distinct (node l r) → m .0 < m .1 → (has l (m .0) ≡ true) × (has l (m .1) ≡ true) → Collapsed m l u → Collapsed m (node l r) (node u r)
+collapsed-left : (m : Merge) (l r u : Tree) → Distinct (node l r) → m .0 < m .1
+    → (has l (m .0) ≡ true) × (has l (m .1) ≡ true) → Collapsed m l u → Collapsed m (node l r) (node u r)
 unfolding form Distinct has
 collapsed-left m l r u D h k C = record {
   form-back =

@@ -135,11 +135,13 @@ straight l r l′ r′ D D′ s i j f g =
 
 -- where a part of one tree lies in the other
 side : (l r l′ r′ : Tree) → Distinct (node l r) → SameClades (node l r) (node l′ r′) → Inside l l′ ⊎ Inside l r′
-unfolding SameClades Clade Inside Distinct
+unfolding SameClades Clade Inside Distinct has
 side l r l′ r′ D s = go (s (has l) .0 (inr (inl (root l))))
   where
     go : ((y : ℕ) → has l y ≡ has (node l′ r′) y) ⊎ (Clade l′ (has l) ⊎ Clade r′ (has l)) → Inside l l′ ⊎ Inside l r′
-    go (inl h) = absurd (D .0 (least r) (h (least r) ∙ sym (same-leaves (node l r) (node l′ r′) s (least r)) ∙ unfold has in or-right (has l (least r)) (has r (least r)) (least-in r)) (least-in r))
+    go (inl h) =
+        let own : has (node l r) (least r) ≡ true = or-right (has l (least r)) (has r (least r)) (least-in r) in
+        absurd (D .0 (least r) (h (least r) ∙ sym (same-leaves (node l r) (node l′ r′) s (least r)) ∙ own) (least-in r))
     go (inr (inl h)) = inl (clade-in (has l) l′ h)
     go (inr (inr h)) = inr (clade-in (has l) r′ h)
 

@@ -1,9 +1,10 @@
 -- The tree that merges build. The first merge (a, i) makes of the leaf a of the tree of the others the parts a and i.
--- Main definitions: filled, graft. Main results: grown-filled, grown-graft, has-grown, least-grown, distinct-grown, form-grown, size-grown, grown-below.
+-- Main definitions: filled, graft. Main results: grown-filled, grown-graft, grown-append, grown-keeps, has-grown, distinct-grown,
+-- form-grown, size-grown, grown-below.
 use mathlib.Core.Path.{_≡_, refl, sym, ap, ap₂, _∙_}
 use mathlib.Core.Logic.{_≢_, _⊎_, inl, inr, ⊎-elim}
 use mathlib.Core.Bool.{Bool, true, false, _&&_, _||_, cond, true≢false}
-use mathlib.Core.List.{List, [], _∷_}
+use mathlib.Core.List.{List, [], _∷_, _++_}
 use Prim.Native.Nat.{ℕ, suc, _+_, _<_, min}
 use native.Mathlib.Omega.{arith}
 use lib.Dec.{eqb, ltb}
@@ -11,7 +12,7 @@ use lib.ListN.{length}
 use borrow.Author.Tests.{eqb-true, lt-ltb}
 use Rattle.rules.specs.Building.{Merge}
 use Rattle.rules.specs.Tree.{Tree, leaf, node, Clusters, joined, grown, has, least, size, Distinct, LeavesBelow}
-use Rattle.merging.specs.Bools.{or-cases, or-no, or-false, and-left, and-right}
+use Rattle.merging.specs.Bools.{or-cases, or-left, or-no, or-false, and-left, and-right}
 use Rattle.merging.specs.Named.{named, Good, Rising}
 use Rattle.clades.specs.Form.{join, form}
 
@@ -59,6 +60,21 @@ grown-filled (m ∷ P) c x =
 pub grown-graft : (m : Merge) (P : List Merge) (x : ℕ) → grown (m ∷ P) leaf x ≡ graft m (grown P leaf x)
 unfolding grown graft
 grown-graft m P x = grown-filled P (joined m leaf) x
+
+pub grown-append : (Q R : List Merge) (c : Clusters) → grown (Q ++ R) c ≡ grown R (grown Q c)
+unfolding grown
+grown-append [] R c = refl
+grown-append (m ∷ Q) R c = grown-append Q R (joined m c)
+
+-- a cluster keeps its leaves
+pub grown-keeps : (Q : List Merge) (c : Clusters) (x y : ℕ) → has (c x) y ≡ true → has (grown Q c x) y ≡ true
+unfolding grown joined has
+grown-keeps [] c x y h = h
+grown-keeps (m ∷ Q) c x y h = grown-keeps Q (joined m c) x y (go (eqb x (m .0)) refl)
+  where
+    go : (b : Bool) → eqb x (m .0) ≡ b → has (cond b (node (c (m .0)) (c (m .1))) (c x)) y ≡ true
+    go true q = or-left (has (c (m .0)) y) (has (c (m .1)) y) (rw (eqb-true x (m .0) q) at h)
+    go false q = h
 
 mix : (a p b q x : Bool) → (a || p && x) || (b || q && x) ≡ (a || b) || ((p || q) && x)
 mix true p b q x = refl

@@ -1,18 +1,19 @@
 -- The names of a list of merges in which each takes a cluster that is there into another.
--- Main results: unnamed-times, named-times, under-named, under-unnamed, pairs-named.
-use mathlib.Core.Path.{_≡_, refl, sym, _∙_}
-use mathlib.Core.Bool.{Bool, true, false}
-use mathlib.Core.List.{List, [], _∷_}
+-- Main results: unnamed-times, named-times, under-named, under-unnamed, pairs-named, rest-there, there-rest.
+use mathlib.Core.Path.{_≡_, refl, sym, ap, _∙_}
+use mathlib.Core.Logic.{⊎-elim}
+use mathlib.Core.Bool.{Bool, true, false, true≢false}
+use mathlib.Core.List.{List, [], _∷_, _++_}
 use Prim.Native.Nat.{ℕ, _≤_, _<_}
 use native.Mathlib.Omega.{arith}
 use lib.Dec.{eqb, ltb}
 use borrow.Author.Tests.{ltb-true, ltb-false, eqb-true, eqb-false, eq-eqb, ne-eqb}
 use Rattle.rules.specs.Building.{Merge}
-use Rattle.merging.specs.Bools.{or-no, or-left, or-right, or-false}
-use Rattle.merging.specs.Once.{times, hit-same, hit-other}
+use Rattle.merging.specs.Bools.{or-cases, or-no, or-left, or-right, or-false}
+use Rattle.merging.specs.Once.{times, misses, hit-same, hit-other}
 use Rattle.merging.specs.Insertion.{pairsOf}
-use Rattle.merging.specs.Greedy.{Under, under-pairs}
-use Rattle.merging.specs.Named.{named, Good, named-all}
+use Rattle.merging.specs.Greedy.{Greedy, Under, under-pairs}
+use Rattle.merging.specs.Named.{named, Good, Rising, named-all}
 
 pub unnamed-times : (i : ℕ) (P : List Merge) → named P i ≡ false → times i P ≡ 0
 unfolding named times
@@ -50,3 +51,40 @@ pairs-named v n h x = go (ltb x n) refl
     go : (b : Bool) → ltb x n ≡ b → named (pairsOf v n) x ≡ b
     go true q = named-all v n x (ltb-true x n q)
     go false q = let l = ltb-false x n q in under-unnamed n (pairsOf v n) (under-pairs v n) x (omega arith) l
+
+-- the merges R after the merges Q
+
+pub named-more : (Q R : List Merge) (x : ℕ) → named R x ≡ true → named (Q ++ R) x ≡ true
+unfolding named
+named-more [] R x h = h
+named-more (q ∷ Q) R x h = or-left (named (Q ++ R) x) (eqb (q .1) x) (named-more Q R x h)
+
+-- a name of the rest has not been merged away
+pub rest-there : (Q R : List Merge) → Good (Q ++ R) → (x : ℕ) → named R x ≡ true → times x Q ≡ 0
+unfolding Good times
+rest-there [] R G x h = refl
+rest-there (q ∷ Q) R G x h =
+    omega (arith, rest-there Q R (G .2) x h, hit-other x (q .1) (λ e. true≢false (sym (named-more Q R x h) ∙ ap (named (Q ++ R)) e ∙ G .1)))
+
+-- a name that has not been merged away is one of the rest
+pub there-rest : (Q R : List Merge) (x : ℕ) → named (Q ++ R) x ≡ true → times x Q ≡ 0 → named R x ≡ true
+unfolding named
+there-rest [] R x h z = h
+there-rest (q ∷ Q) R x h z =
+    let k = misses x q Q z in
+    ⊎-elim (λ e. there-rest Q R x e (k .1)) (λ e. absurd (eqb-false x (q .1) (k .0) (sym (eqb-true (q .1) x e)))) (or-cases (named (Q ++ R) x) (eqb (q .1) x) h)
+
+pub good-rest : (Q R : List Merge) → Good (Q ++ R) → Good R
+unfolding Good
+good-rest [] R G = G
+good-rest (q ∷ Q) R G = good-rest Q R (G .2)
+
+pub rising-rest : (Q R : List Merge) → Rising (Q ++ R) → Rising R
+unfolding Rising
+rising-rest [] R g = g
+rising-rest (q ∷ Q) R g = rising-rest Q R (g .1)
+
+pub greedy-rest : (Q R : List Merge) → Greedy (Q ++ R) → Greedy R
+unfolding Greedy
+greedy-rest [] R H = H
+greedy-rest (q ∷ Q) R H = greedy-rest Q R (H .1)

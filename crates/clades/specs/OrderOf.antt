@@ -1,8 +1,9 @@
 -- The order of a tree's merges: of the ready pairs the one with the greatest larger name comes first.
 -- Lists of merges in that order and trees up to turning are the same thing.
--- Main results: order-of-grown, grown-order, order-rising, order-good, order-greedy, order-named, order-length, order-once, order-turned, same-order.
+-- Main definition: Step. Main results: order-of-grown, order-induct, order-rising, order-good, order-greedy, order-named, order-under,
+-- order-length, order-count, order-once, grown-order, order-turned, same-order, order-clades.
 use mathlib.Core.Path.{_≡_, refl, sym, ap, _∙_}
-use mathlib.Core.Logic.{_≢_, _⊎_, inl, inr, ⊎-elim}
+use mathlib.Core.Logic.{_≢_, _⊎_, inl, inr, ⊎-elim, _↔_}
 use mathlib.Core.Bool.{Bool, true, false, not, _||_, true≢false}
 use mathlib.Core.List.{List, [], _∷_}
 use mathlib.Core.Option.{some}
@@ -18,8 +19,9 @@ use Rattle.merging.specs.Bools.{or-no, and-left, and-right}
 use Rattle.merging.specs.Once.{times}
 use Rattle.merging.specs.Greedy.{touch, free, Ahead, Greedy, Under}
 use Rattle.merging.specs.Named.{named, Good, Rising}
-use Rattle.clades.specs.Leaves.{size-some, below-some, below-least}
-use Rattle.clades.specs.Form.{form, same-form}
+use Rattle.clades.specs.Leaves.{size-some, below-least}
+use Rattle.clades.specs.Count.{size-below}
+use Rattle.clades.specs.Form.{form, clades-up-to-turning}
 use Rattle.clades.specs.Grown.{graft, grown-graft, has-grown, size-grown}
 use Rattle.clades.specs.Ready.{Ready, Greatest, best-greatest, best-is, best-some, ready-has, ready-rising}
 use Rattle.clades.specs.Collapse.{Collapsed, collapsed, collapsed-has, collapsed-least, collapsed-size, Clear, ready-before}
@@ -173,13 +175,16 @@ order-greedy t D = order-ahead t D .1
 -- for a tree with the leaves 0 to n-1
 
 pub order-named : (n : ℕ) (t : Tree) → LeavesBelow n t → (x : ℕ) → named (order t) x ≡ ltb x n
-order-named n t L x = order-names t (L .once) (below-least n t L (below-some n t L)) .0 x ∙ L .all x
+order-named n t L x = order-names t (L .once) (below-least n t L) .0 x ∙ L .all x
 
 pub order-good : (n : ℕ) (t : Tree) → LeavesBelow n t → Good (order t)
-order-good n t L = order-names t (L .once) (below-least n t L (below-some n t L)) .1
+order-good n t L = order-names t (L .once) (below-least n t L) .1
 
 pub order-under : (n : ℕ) (t : Tree) → LeavesBelow n t → Under n (order t)
 order-under n t L = under-named n (order t) (λ x e. ltb-true x n (sym (order-named n t L x) ∙ e))
+
+pub order-count : (n : ℕ) (t : Tree) → LeavesBelow n t → suc (length (order t)) ≡ n
+order-count n t L = sym (order-length t (L .once)) ∙ size-below n t L
 
 -- each larger name stands once
 pub order-once : (n : ℕ) (t : Tree) → LeavesBelow n t → (i : ℕ) → 1 ≤ i → i < n → times i (order t) ≡ 1
@@ -187,7 +192,7 @@ order-once n t L i h l = named-times i (order t) (order-good n t L) h (order-nam
 
 -- the merges of a tree build its form
 pub grown-order : (n : ℕ) (t : Tree) → LeavesBelow n t → grown (order t) leaf 0 ≡ form t
-grown-order n t L = ap (grown (order t) leaf) (sym (below-least n t L (below-some n t L))) ∙ grown-least t (L .once)
+grown-order n t L = ap (grown (order t) leaf) (sym (below-least n t L)) ∙ grown-least t (L .once)
 
 -- turning pairs does not change the order
 pub order-turned : (n : ℕ) (t : Tree) → LeavesBelow n t → order t ≡ order (form t)
@@ -195,4 +200,11 @@ order-turned n t L = sym (order-of-grown (order t) (order-rising t (L .once)) (o
 
 -- the order depends on the clades alone
 pub same-order : (n : ℕ) (t u : Tree) → LeavesBelow n t → LeavesBelow n u → SameClades t u → order t ≡ order u
-same-order n t u L M s = order-turned n t L ∙ ap order (same-form t u (L .once) (M .once) s) ∙ sym (order-turned n u M)
+same-order n t u L M s = order-turned n t L ∙ ap order (clades-up-to-turning t u (L .once) (M .once) .0 s) ∙ sym (order-turned n u M)
+
+-- and fixes them
+pub order-clades : (n : ℕ) (t u : Tree) → LeavesBelow n t → LeavesBelow n u → SameClades t u ↔ (order t ≡ order u)
+order-clades n t u L M = (
+  same-order n t u L M,
+  λ e. clades-up-to-turning t u (L .once) (M .once) .1 (sym (grown-order n t L) ∙ ap (λ (P : List Merge). grown P leaf 0) e ∙ grown-order n u M),
+)

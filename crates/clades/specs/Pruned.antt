@@ -166,7 +166,8 @@ pruned-again keep less h (leaf x) = go (keep x) refl
     go false q = unfold again in rw (h x q)
 pruned-again keep less h (node l r) = again-beside less (pruned keep l) (pruned keep r) ∙ ap₂ beside (pruned-again keep less h l) (pruned-again keep less h r)
 
-pub pruned-twice : (keep less : ℕ → Bool) → ((x : ℕ) → keep x ≡ false → less x ≡ false) → (t u w : Tree) → pruned keep t ≡ some u → pruned less u ≡ some w → pruned less t ≡ some w
+pub pruned-twice : (keep less : ℕ → Bool) → ((x : ℕ) → keep x ≡ false → less x ≡ false)
+    → (t u w : Tree) → pruned keep t ≡ some u → pruned less u ≡ some w → pruned less t ≡ some w
 pruned-twice keep less h t u w e f = sym (pruned-again keep less h t) ∙ (rw e (unfold again in f))
 
 -- a tree all of whose leaves are kept is as it was

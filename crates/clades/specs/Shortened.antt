@@ -1,31 +1,27 @@
 -- Merges without the one of the greatest leaf build the tree without that leaf; so does a vector cut short.
--- Main definition: under. Main results: pruned-grown, pruned-pairs, short-clades.
+-- Main definition: keepBelow. Main results: pruned-grown, pruned-pairs, short-clades.
 use mathlib.Core.Path.{_≡_, refl, sym, ap, _∙_}
-use mathlib.Core.Logic.{_↔_}
 use mathlib.Core.Bool.{Bool, true, false, cond, true≢false}
 use mathlib.Core.List.{List, [], _∷_}
 use mathlib.Core.Option.{Option, none, some}
 use Prim.Native.Nat.{ℕ, zero, suc, _≤_, _<_}
 use native.Mathlib.Omega.{arith}
 use lib.Dec.{eqb, ltb}
-use lib.ListN.{length, take, length-take}
-use lib.Seq.{getD-take}
 use borrow.Author.Tests.{ltb-true, ltb-false, lt-ltb, le-ltb, eqb-true, eqb-false, eq-eqb}
-use Rattle.rules.specs.Vector.{entry}
 use Rattle.rules.specs.Building.{Merge}
-use Rattle.rules.specs.Tree.{Tree, leaf, node, grown, has, Clade}
+use Rattle.rules.specs.Tree.{Tree, leaf, node, grown, has}
 use Rattle.merging.specs.Bools.{or-left, or-right}
-use Rattle.merging.specs.Insertion.{pairs, pairsOf, pairs-cong, Bounded}
+use Rattle.merging.specs.Insertion.{pairsOf, Bounded}
 use Rattle.merging.specs.Once.{without, without-insert, never, fits}
 use Rattle.merging.specs.Greedy.{Under, under-pairs}
 use Rattle.merging.specs.Named.{named, Good, Rising, good, rising}
 use Rattle.clades.specs.Grown.{graft, grown-graft, has-grown}
 use Rattle.clades.specs.Names.{under-unnamed, pairs-named}
-use Rattle.clades.specs.Pruned.{beside, pruned, Restriction, pruned-clades, pruned-twice, pruned-all}
+use Rattle.clades.specs.Pruned.{beside, pruned, pruned-twice, pruned-all}
 
 -- the leaves below n
-unfoldable pub under : ℕ → ℕ → Bool
-under n x = ltb x n
+unfoldable pub keepBelow : ℕ → ℕ → Bool
+keepBelow n x = ltb x n
 
 -- a graft in what is left
 grafted : Merge → Option Tree → Option Tree
@@ -61,7 +57,7 @@ graft-lost keep m q (leaf x) h = go (eqb x (m .0)) refl
 graft-lost keep m q (node l r) h =
     rw (graft-lost keep m q l (λ x e. h x (or-left (has l x) (has r x) e)), graft-lost keep m q r (λ x e. h x (or-right (has l x) (has r x) e)))
 
--- the names of merges under k + 1 of which none is k's are below k
+-- where all larger names are at most k and none is k, all names are below k
 below-last : (k : ℕ) (P : List Merge) → 1 ≤ k → Under (suc k) P → named P k ≡ false → (x : ℕ) → named P x ≡ true → x < k
 below-last k P h u e x n = go (ltb x k) refl
   where
@@ -74,19 +70,19 @@ below-last k P h u e x n = go (ltb x k) refl
         miss false q l = let ne = eqb-false x k q in under-unnamed (suc k) P u x (omega arith) (omega arith)
 
 -- merges without the one of the greatest leaf k build the tree without k
-pub pruned-grown : (k : ℕ) (P : List Merge) → 1 ≤ k → Rising P → Good P → Under (suc k) P → pruned (under k) (grown P leaf 0) ≡ some (grown (without k P) leaf 0)
-unfolding without Rising Good Under under grafted
+pub pruned-grown : (k : ℕ) (P : List Merge) → 1 ≤ k → Rising P → Good P → Under (suc k) P → pruned (keepBelow k) (grown P leaf 0) ≡ some (grown (without k P) leaf 0)
+unfolding without Rising Good Under keepBelow grafted
 pruned-grown k [] h g G u = unfold pruned grown in rw (lt-ltb 0 k h)
-pruned-grown k (m ∷ P) h g G u = ap (pruned (under k)) (grown-graft m P 0) ∙ go (eqb k (m .1)) refl (pruned-grown k P h (g .1) (G .2) (u .1))
+pruned-grown k (m ∷ P) h g G u = ap (pruned (keepBelow k)) (grown-graft m P 0) ∙ go (eqb k (m .1)) refl (pruned-grown k P h (g .1) (G .2) (u .1))
   where
-    go : (b : Bool) → eqb k (m .1) ≡ b → pruned (under k) (grown P leaf 0) ≡ some (grown (without k P) leaf 0)
-        → pruned (under k) (graft m (grown P leaf 0)) ≡ some (grown (cond b P (m ∷ without k P)) leaf 0)
+    go : (b : Bool) → eqb k (m .1) ≡ b → pruned (keepBelow k) (grown P leaf 0) ≡ some (grown (without k P) leaf 0)
+        → pruned (keepBelow k) (graft m (grown P leaf 0)) ≡ some (grown (cond b P (m ∷ without k P)) leaf 0)
     go true q ih = let e : named P k ≡ false = rw (eqb-true k (m .1) q) (G .1) in
-        graft-lost (under k) m (le-ltb (m .1) k (omega (arith, eqb-true k (m .1) q))) (grown P leaf 0)
+        graft-lost (keepBelow k) m (le-ltb (m .1) k (omega (arith, eqb-true k (m .1) q))) (grown P leaf 0)
         (λ x n. lt-ltb x k (below-last k P h (u .1) e x (sym (has-grown P (G .2) x) ∙ n)))
     go false q ih =
         let l = u .0 in let s = g .0 in let ne = eqb-false k (m .1) q in
-        graft-kept (under k) m (lt-ltb (m .0) k (omega arith)) (lt-ltb (m .1) k (omega arith)) (grown P leaf 0)
+        graft-kept (keepBelow k) m (lt-ltb (m .0) k (omega arith)) (lt-ltb (m .1) k (omega arith)) (grown P leaf 0)
         ∙ ap (grafted m) ih ∙ ap some (sym (grown-graft m (without k P) 0))
 
 -- the merges of a vector without the last leaf's are those of the entries before it
@@ -95,38 +91,25 @@ unfolding pairsOf
 without-last v zero b = unfold without in refl
 without-last v (suc n) b = without-insert (suc n) (v (suc n)) (pairsOf v (suc n)) (never v (suc n) (suc n) (omega arith)) (fits v n b)
 
-pairs-take : (v : List ℕ) (m : ℕ) → m ≤ length v → pairsOf (entry (take m v)) (length (take m v)) ≡ pairsOf (entry v) m
-unfolding entry
-pairs-take v m l =
-    let e : length (take m v) ≡ m = omega (arith, length-take m v) in
-    rw e (pairs-cong (entry (take m v)) (entry v) m (λ i h. getD-take m v i 0 h))
-
 -- the first m entries of a vector build the tree of the leaves below m
-pub pruned-pairs : (v : ℕ → ℕ) (n m : ℕ) → Bounded v n → 1 ≤ m → m ≤ n → pruned (under m) (grown (pairsOf v n) leaf 0) ≡ some (grown (pairsOf v m) leaf 0)
-unfolding Bounded under
+pub pruned-pairs : (v : ℕ → ℕ) (n m : ℕ) → Bounded v n → 1 ≤ m → m ≤ n → pruned (keepBelow m) (grown (pairsOf v n) leaf 0) ≡ some (grown (pairsOf v m) leaf 0)
+unfolding Bounded keepBelow
 pruned-pairs v zero m b h l = absurd (omega arith)
 pruned-pairs v (suc n) m b h l = go (eqb m (suc n)) refl (λ k. pruned-pairs v n m (λ i j. b i (omega arith)) h k)
   where
-    whole : pruned (under (suc n)) (grown (pairsOf v (suc n)) leaf 0) ≡ some (grown (pairsOf v (suc n)) leaf 0)
-    whole = pruned-all (under (suc n)) (grown (pairsOf v (suc n)) leaf 0)
+    whole : pruned (keepBelow (suc n)) (grown (pairsOf v (suc n)) leaf 0) ≡ some (grown (pairsOf v (suc n)) leaf 0)
+    whole = pruned-all (keepBelow (suc n)) (grown (pairsOf v (suc n)) leaf 0)
         (λ x e. sym (pairs-named v (suc n) (omega arith) x) ∙ sym (has-grown (pairsOf v (suc n)) (good v (suc n) b) x) ∙ e)
 
-    last : 1 ≤ n → pruned (under n) (grown (pairsOf v (suc n)) leaf 0) ≡ some (grown (pairsOf v n) leaf 0)
+    last : 1 ≤ n → pruned (keepBelow n) (grown (pairsOf v (suc n)) leaf 0) ≡ some (grown (pairsOf v n) leaf 0)
     last k = pruned-grown n (pairsOf v (suc n)) k (rising v (suc n) b) (good v (suc n) b) (under-pairs v (suc n))
         ∙ ap (λ (P : List Merge). some (grown P leaf 0)) (without-last v n b)
 
-    go : (t : Bool) → eqb m (suc n) ≡ t → (m ≤ n → pruned (under m) (grown (pairsOf v n) leaf 0) ≡ some (grown (pairsOf v m) leaf 0))
-        → pruned (under m) (grown (pairsOf v (suc n)) leaf 0) ≡ some (grown (pairsOf v m) leaf 0)
+    go : (t : Bool) → eqb m (suc n) ≡ t → (m ≤ n → pruned (keepBelow m) (grown (pairsOf v n) leaf 0) ≡ some (grown (pairsOf v m) leaf 0))
+        → pruned (keepBelow m) (grown (pairsOf v (suc n)) leaf 0) ≡ some (grown (pairsOf v m) leaf 0)
     go true q ih = rw (eqb-true m (suc n) q) whole
     go false q ih =
         let ne = eqb-false m (suc n) q in
         let k : m ≤ n = omega arith in
-        pruned-twice (under n) (under m) (λ x e. let f = ltb-false x n e in le-ltb x m (omega arith)) (grown (pairsOf v (suc n)) leaf 0) (grown (pairsOf v n) leaf 0)
+        pruned-twice (keepBelow n) (keepBelow m) (λ x e. let f = ltb-false x n e in le-ltb x m (omega arith)) (grown (pairsOf v (suc n)) leaf 0) (grown (pairsOf v n) leaf 0)
         (grown (pairsOf v m) leaf 0) (last (omega arith)) (ih k)
-
--- "the clades of their tree are exactly the non-empty sets got by keeping, in each clade of the whole tree, only leaves 0 to m-1"
-pub short-clades : (v : List ℕ) (m : ℕ) → Bounded (entry v) (length v) → 1 ≤ m → m ≤ length v
-    → (c : ℕ → Bool) → Clade (grown (pairs (take m v)) leaf 0) c ↔ Restriction (under m) (grown (pairs v) leaf 0) c
-unfolding pairs
-short-clades v m b h l c =
-    rw (pairs-take v m l) (pruned-clades (under m) (grown (pairsOf (entry v) (length v)) leaf 0) (grown (pairsOf (entry v) m) leaf 0) (pruned-pairs (entry v) (length v) m b h l) c)

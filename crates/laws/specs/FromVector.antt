@@ -2,14 +2,13 @@
 -- Main results: no-leaf, many-leaves, above-bound, within-bounds.
 use mathlib.Core.List.{List}
 use mathlib.Core.Option.{none, some}
-use mathlib.Core.Path.{_≡_, refl}
+use mathlib.Core.Path.{_≡_}
 use Prim.Native.Nat.{ℕ, _≤_, _<_}
 use native.Mathlib.Omega.{arith}
-use lib.Dec.{eqb, ltb}
 use lib.ListN.{length}
 use borrow.Author.Tests.{lt-ltb, le-ltb, eq-eqb, ne-eqb}
 use Rattle.rules.specs.Vector.{fault}
-use Rattle.rules.specs.Answer.{Made, made, refuses}
+use Rattle.rules.specs.Answer.{Made, refuses}
 use Rattle.rules.specs.Calls.{refuseCount, fromVector}
 
 -- 1: "leaf count 0"

@@ -9,7 +9,7 @@
 --     building Going.goes-on, one-left (it is named 0), stops.
 -- "The order of merges depends on the tree alone: of the pairs whose two clusters are complete, the one whose larger name is greatest
 -- comes first."
---     TreeOf.fact-one, equal-trees-equal-order; step by step: clades Fact1.
+--     TreeOf.fact-one, equal-trees-equal-order; step by step: FactOne.fact-one-at-each-step.
 -- "if s merges of two clusters both named below i came before i merged with cluster a, then v(i) = a when s = 0, else v(i) = i-1+s"
 --     FactTwo.fact-two-in-words; building Entry.fact-two.
 -- "lead to the same vector exactly when they have the same clades"
@@ -24,6 +24,7 @@ pub mod Answers
 pub mod FromVector
 pub mod TreeOf
 pub mod Stands
+pub mod FactOne
 pub mod FactTwo
 pub mod OneToOne
 pub mod Shortened

@@ -1,17 +1,16 @@
 -- One to one: valid vectors and rooted binary trees with leaves 0 to n-1, up to turning pairs round.
 -- Main results: same-clades-same-vector, every-tree, only-vector.
-use mathlib.Core.Bool.{Bool, true, false, false≢true}
+use mathlib.Core.Bool.{Bool, true, false}
 use mathlib.Core.List.{List}
 use mathlib.Core.Logic.{_↔_}
 use mathlib.Core.Path.{_≡_, refl, sym, ap, _∙_, subst}
-use Prim.Native.Nat.{ℕ, _≤_, _<_}
+use Prim.Native.Nat.{ℕ}
 use native.Mathlib.Omega.{arith}
 use lib.Dec.{ltb}
 use lib.ListN.{length}
 use borrow.Author.Tests.{ltb-true, ltb-false}
 use Rattle.rules.specs.Vector.{Valid}
-use Rattle.rules.specs.Building.{merges}
-use Rattle.rules.specs.Tree.{Tree, leaf, has, treeOf, grown, LeavesBelow, SameClades}
+use Rattle.rules.specs.Tree.{Tree, leaf, treeOf, grown, LeavesBelow, SameClades}
 use Rattle.rules.specs.Order.{order, vectorOf, listed, entryAt}
 use Rattle.building.specs.Backwards.{InOrder, in-order-is-merges}
 use Rattle.building.specs.Entry.{merges-injective}
@@ -21,7 +20,7 @@ use Rattle.clades.specs.Form.{form-clades}
 use Rattle.clades.specs.Leaves.{below-some}
 use Rattle.clades.specs.OrderOf.{order-rising, order-good, order-greedy, order-under, order-once, grown-order}
 use Rattle.clades.specs.Same.{same-refl, same-sym, same-trans, same-leaves}
-use Rattle.laws.specs.TreeOf.{tree-leaves, equal-trees-equal-order, fact-one}
+use Rattle.laws.specs.TreeOf.{tree-leaves, equal-trees-equal-order}
 
 -- trees with the same leaves have the same number of them
 same-count : (m n : ℕ) → ((x : ℕ) → ltb x m ≡ ltb x n) → m ≡ n

@@ -1,21 +1,17 @@
 -- The tree of a vector: its leaves, how it stands, and that the building rule merges its pairs in the order that fact 1 says.
 -- Main results: tree-leaves, tree-stands, fact-one, equal-trees-equal-order, vector-again.
-use mathlib.Core.Bool.{true}
 use mathlib.Core.List.{List}
-use mathlib.Core.Path.{_≡_, refl, sym, ap, ap₂, _∙_, subst}
-use Prim.Native.Nat.{ℕ, _≤_, _<_}
-use native.Mathlib.Omega.{arith}
-use lib.Dec.{ltb}
+use mathlib.Core.Path.{_≡_, sym, ap, ap₂, _∙_}
+use Prim.Native.Nat.{ℕ}
 use lib.ListN.{length}
-use borrow.Author.Tests.{ltb-true, ltb-false}
 use Rattle.rules.specs.Vector.{Valid, entry}
 use Rattle.rules.specs.Building.{merges}
-use Rattle.rules.specs.Tree.{Tree, leaf, node, least, size, treeOf, grown, LeavesBelow, SameClades}
+use Rattle.rules.specs.Tree.{leaf, size, treeOf, grown, LeavesBelow, SameClades}
 use Rattle.rules.specs.Order.{order, vectorOf, listed, entryAt}
 use Rattle.merging.specs.Insertion.{pairs}
 use Rattle.building.specs.Built.{valid-bounded, merges-are-pairs}
 use Rattle.building.specs.Entry.{entries-of-merges}
-use Rattle.clades.specs.Form.{form, join, form-least}
+use Rattle.clades.specs.Form.{form}
 use Rattle.clades.specs.Count.{size-below}
 use Rattle.clades.specs.Fact1.{pairs-order, pairs-below}
 use Rattle.clades.specs.Grown.{form-grown}

@@ -1,9 +1,9 @@
 -- What each of the nine calls makes of its input, with the refusals in the order of the section "What comes back".
 -- Main definitions: check, toTable, fromTable, toText, FromText, pack, unpack, shuffleNew, shuffleVector, relabel.
 use mathlib.Core.Bool.{Bool, not, _||_, cond}
-use mathlib.Core.List.{List, [], _∷_}
+use mathlib.Core.List.{List, []}
 use mathlib.Core.Option.{Option, none, some}
-use Prim.Native.Nat.{ℕ, _+_, _-_, _*_, _≤_, _<_}
+use Prim.Native.Nat.{ℕ, _-_, _*_, _≤_, _<_}
 use lib.Dec.{eqb, ltb}
 use lib.ListN.{length}
 use Rattle.rules.specs.Vector.{fault}

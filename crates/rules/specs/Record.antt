@@ -1,11 +1,11 @@
 -- The packed record: bits in a row, most significant first, filled up to whole bytes.
 -- Main definitions: bitsNeeded, width, total, recordLength, field, number, recordOf, entriesOf.
-use mathlib.Core.Bool.{Bool, true, false, _||_, cond}
+use mathlib.Core.Bool.{Bool, false, _||_}
 use mathlib.Core.List.{List, [], _∷_, _++_}
-use Prim.Native.Nat.{ℕ, zero, suc, _+_, _-_, _*_, _/_, _%_, _^_}
-use lib.Dec.{eqb, ltb}
+use Prim.Native.Nat.{ℕ, zero, suc, _+_, _*_, _/_, _%_, _^_}
+use lib.Dec.{eqb}
 use lib.ListN.{length, take, drop, replicate}
-use Rattle.rules.specs.Vector.{entry, bound}
+use Rattle.rules.specs.Vector.{bound}
 use Rattle.rules.specs.Order.{listed}
 
 -- A bit is 0 or 1.

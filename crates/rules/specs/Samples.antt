@@ -4,17 +4,17 @@ use mathlib.Core.Bool.{Bool, true, false, _&&_}
 use mathlib.Core.List.{List, [], _∷_, _++_, map, flatMap}
 use mathlib.Core.Path.{_≡_, refl}
 use Prim.Native.Char.{code}
-use Prim.Native.Nat.{ℕ, zero, suc, _≤_}
+use Prim.Native.Nat.{ℕ, zero, suc}
 use Prim.Native.String.{String, [] as []ˢ, _∷_ as _∷ˢ_}
 use native.Mathlib.Bridge.{le-by-compare, IsLe}
 use lib.Dec.{eqb}
 use lib.ListN.{length, replicate}
 use Rattle.rules.specs.Building.{below}
 use Rattle.rules.specs.Vector.{bound}
-use Rattle.rules.specs.Tree.{Tree, leaf, node, treeOf}
+use Rattle.rules.specs.Tree.{leaf, treeOf}
 use Rattle.rules.specs.Order.{vectorOf}
 use Rattle.rules.specs.Table.{tableOf}
-use Rattle.rules.specs.Newick.{pairText, isDigit, allDigits, valueFrom, Label, nought, number, Node, label, pair, Text, text}
+use Rattle.rules.specs.Newick.{pairText, allDigits, valueFrom, nought, number, Node, label, pair, text}
 use Rattle.rules.specs.Record.{recordOf}
 use Rattle.rules.specs.Answer.{Made, made, refuses}
 use Rattle.rules.specs.Calls.{check, toTable, fromTable, toText, fromLabels, FromText, reads-as, pack, unpack, shuffleNew, shuffleVector, relabel}

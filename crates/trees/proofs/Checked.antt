@@ -14,7 +14,7 @@ use Rattle.rules.specs.Answer.{Outcome, done, refused, Made, made, refuses, rea
 use Rattle.rules.specs.declared.Refusal.{Refusal}
 use Rattle.rules.specs.declared.Answer.{Answer}
 use Rattle.rules.specs.declared.Answer.the-variants.{Done, Refused}
-use Rattle.rules.specs.Calls.{refuseCount, fromVector, check}
+use Rattle.rules.specs.Calls.{fromVector, check}
 use Rattle.laws.specs.FromVector.{no-leaf, many-leaves, above-bound, within-bounds}
 use Rattle.vector.specs.Fault.{firstFault, first-fault-some, first-fault-none, no-fault-valid, valid-no-fault}
 

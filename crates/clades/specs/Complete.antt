@@ -1,0 +1,88 @@
+-- Fact 1 of 01 over the clusters that the merges build: after each number of merges, of the pairs of the whole tree whose two clusters
+-- are there, the one whose larger name is greatest is merged next.
+-- Main definition: Complete. Main results: next-complete, next-complete-pairs.
+use mathlib.Core.Path.{_≡_, refl, sym, ap, _∙_}
+use mathlib.Core.Bool.{true}
+use mathlib.Core.List.{List, _∷_, _++_}
+use Prim.Native.Nat.{ℕ, suc, _<_, min, max}
+use native.Mathlib.Omega.{arith}
+use lib.Dec.{eqb}
+use lib.ListN.{length, take, drop, getD, take-append-drop}
+use lib.Seq.{drop-cons}
+use borrow.Author.Tests.{eq-eqb}
+use Rattle.rules.specs.Vector.{entry}
+use Rattle.rules.specs.Building.{Merge}
+use Rattle.rules.specs.Tree.{leaf, node, Clusters, grown, has}
+use Rattle.merging.specs.Bools.{or-left, or-right}
+use Rattle.merging.specs.Insertion.{pairs, Bounded}
+use Rattle.merging.specs.Once.{times}
+use Rattle.merging.specs.Greedy.{Greedy, greedy}
+use Rattle.merging.specs.Named.{named, Good, Rising, good, rising}
+use Rattle.clades.specs.Leaves.{Inside}
+use Rattle.clades.specs.Grown.{filled, grown-filled, grown-graft, grown-append, grown-keeps, has-grown, distinct-grown}
+use Rattle.clades.specs.Names.{rest-there, there-rest, good-rest, rising-rest, greedy-rest}
+use Rattle.clades.specs.Ready.{Ready, Greatest}
+use Rattle.clades.specs.Fact1.{after, fact-1-grown}
+use Rattle.clades.specs.Clusters.{clusters-ready}
+use Rattle.clades.specs.Part.{Part, part-inside-both, part-filled, part-own}
+
+-- after the merges Q, of the tree that the merges P build: p is one of its pairs, both its clusters are there and neither is merged away
+pub record Complete (Q P : List Merge) (p : Merge) : Type 0 where
+  pub pair : Part (node (grown Q leaf (p .0)) (grown Q leaf (p .1))) (grown P leaf 0)
+  pub smaller : times (p .0) Q ≡ 0
+  pub larger : times (p .1) Q ≡ 0
+
+module _ (Q : List Merge) (m : Merge) (R : List Merge) (g : Rising (Q ++ (m ∷ R))) (G : Good (Q ++ (m ∷ R))) (H : Greedy (Q ++ (m ∷ R))) where
+  whole : grown (Q ++ (m ∷ R)) leaf 0 ≡ filled (grown Q leaf) (grown (m ∷ R) leaf 0)
+  whole = ap (λ (c : Clusters). c 0) (grown-append Q (m ∷ R) leaf) ∙ grown-filled (m ∷ R) (grown Q leaf) 0
+
+  -- a complete pair is a ready pair of the tree of the rest
+  complete-ready : (p : Merge) → Complete Q (Q ++ (m ∷ R)) p → Ready (min (p .0) (p .1), max (p .0) (p .1)) (grown (m ∷ R) leaf 0)
+  complete-ready p K =
+      clusters-ready (grown Q leaf) (grown (m ∷ R) leaf 0) (distinct-grown (m ∷ R) (rising-rest Q (m ∷ R) g) (good-rest Q (m ∷ R) G))
+      (rw whole at (distinct-grown (Q ++ (m ∷ R)) g G)) (p .0) (p .1) (there (p .0) (K .smaller) (i .0)) (there (p .1) (K .larger) (i .1)) (rw whole at (K .pair))
+    where
+      i : Inside (grown Q leaf (p .0)) (grown (Q ++ (m ∷ R)) leaf 0) × Inside (grown Q leaf (p .1)) (grown (Q ++ (m ∷ R)) leaf 0)
+      i = part-inside-both (grown Q leaf (p .0)) (grown Q leaf (p .1)) (grown (Q ++ (m ∷ R)) leaf 0) (K .pair)
+
+      there : (x : ℕ) → times x Q ≡ 0 → Inside (grown Q leaf x) (grown (Q ++ (m ∷ R)) leaf 0) → has (grown (m ∷ R) leaf 0) x ≡ true
+      there x z j =
+          has-grown (m ∷ R) (good-rest Q (m ∷ R) G) x
+          ∙ there-rest Q (m ∷ R) x (sym (has-grown (Q ++ (m ∷ R)) G x) ∙ (unfold Inside in j x (grown-keeps Q leaf x x (unfold has in eq-eqb x x refl)))) z
+
+  own-complete : Complete Q (Q ++ (m ∷ R)) m
+  unfolding filled
+  own-complete =
+      let k = good-rest Q (m ∷ R) G in
+      record {
+        pair = rw whole (part-filled (grown Q leaf) (node (leaf (m .0)) (leaf (m .1))) (grown (m ∷ R) leaf 0) (own k));
+        smaller = rest-there Q (m ∷ R) G (m .0) (low k);
+        larger = rest-there Q (m ∷ R) G (m .1) high;
+      }
+    where
+      own : Good (m ∷ R) → Part (node (leaf (m .0)) (leaf (m .1))) (grown (m ∷ R) leaf 0)
+      own k = rw (grown-graft m R 0) (part-own m (grown R leaf 0) (unfold Good in has-grown R (k .2) (m .0) ∙ k .0))
+
+      low : Good (m ∷ R) → named (m ∷ R) (m .0) ≡ true
+      low k = unfold Good named in or-left (named R (m .0)) (eqb (m .1) (m .0)) (k .0)
+
+      high : named (m ∷ R) (m .1) ≡ true
+      high = unfold named in or-right (named R (m .1)) (eqb (m .1) (m .1)) (eq-eqb (m .1) (m .1) refl)
+
+  next-after : Greatest (Complete Q (Q ++ (m ∷ R))) m
+  next-after = record { is-one = own-complete; above = λ p K. omega (arith, top .above (min (p .0) (p .1), max (p .0) (p .1)) (complete-ready p K)) }
+    where
+      top : Greatest (λ p. Ready p (grown (m ∷ R) leaf 0)) m
+      top = unfold after in fact-1-grown (m ∷ R) (rising-rest Q (m ∷ R) g) (good-rest Q (m ∷ R) G) (greedy-rest Q (m ∷ R) H) 0 (omega arith)
+
+-- merge number k is, of the pairs that are complete after the first k merges, the one whose larger name is greatest
+pub next-complete : (P : List Merge) → Rising P → Good P → Greedy P → (k : ℕ) → k < length P → Greatest (Complete (take k P) P) (getD P k (0, 0))
+next-complete P g G H k h =
+    let e : take k P ++ (getD P k (0, 0) ∷ drop (suc k) P) ≡ P = ap (λ (R : List Merge). take k P ++ R) (sym (drop-cons P k (0, 0) h)) ∙ take-append-drop k P in
+    rw e at (next-after (take k P) (getD P k (0, 0)) (drop (suc k) P) (rw e g) (rw e G) (rw e H))
+
+-- the same of a vector's merges
+pub next-complete-pairs : (v : List ℕ) → Bounded (entry v) (length v)
+    → (k : ℕ) → k < length (pairs v) → Greatest (Complete (take k (pairs v)) (pairs v)) (getD (pairs v) k (0, 0))
+unfolding pairs
+next-complete-pairs v b = next-complete (pairs v) (rising (entry v) (length v) b) (good (entry v) (length v) b) (greedy (entry v) (length v) b)

@@ -1,0 +1,103 @@
+/*
+ * blathersike.h: the C interface of Blathersike, the tree codec of an archive for phylogenetic trees.
+ *
+ * A tree is rooted and binary, with n leaves labelled 0 to n-1, n from 1 to 1,024. It has four notations:
+ *
+ *   vector   n numbers v(0) .. v(n-1), v(0) = 0 and v(i) <= 2(i-1) for i from 1 (Phylo2Vec)
+ *   table    n-1 rows of three numbers: child, child, parent; row t has the parent n+t
+ *   text     Newick, as "((0,1),2);", without lengths, names or blanks
+ *   record   n in 11 bits and the vector's entries in as many bits as their bounds need, filled up to whole bytes
+ *
+ * The library is x86-64 code with no state and no heap. Every call returns, for every input. Calls may run at the same
+ * time on buffers of their own.
+ *
+ * Slices. A list is a pointer and its number of elements. It is the caller's, is only lent for the call, and no call reads
+ * or writes beyond it. Of an empty list the pointer may be anything that is not null. Lists that are lent to one call must
+ * not overlap.
+ *
+ * Answers. The last parameter points to two numbers that every call sets:
+ *
+ *   answer[0] == 0    done: answer[1] is the number of elements written to each output
+ *   answer[0] != 0    refused: answer[0] is the refusal's number, answer[1] its place, counted from 0
+ *
+ * Memory. Where a call is refused, every element of every output is what it was before. Where it is done, the elements
+ * written stand at the front of the output, and those behind them are what they were.
+ *
+ * Refusals, and where their places point:
+ *
+ *    1  the leaf count is 0 or above 1,024                      0
+ *    2  the input's length is wrong                             the length wanted
+ *    3  an output has too few elements                          the elements needed
+ *    4  a vector entry is above its bound                       its index
+ *    5  the parent of row t is not n+t                          t
+ *    6  a child in row t is not below n+t                       t
+ *    7  a child in row t was named before, or twice in it       t
+ *    8  the text breaks the grammar                             the first byte that no text can have there,
+ *                                                               or the length if the text ends early
+ *    9  a label is not below n, or was used before              its first byte
+ *   10  a padding bit is set                                    the last byte's number
+ *   11  a permutation's value is not below n, or used before    its index
+ *
+ * Each call below says which refusals it gives, in the order in which they are looked for.
+ */
+#ifndef BLATHERSIKE_H
+#define BLATHERSIKE_H
+
+#include <stddef.h>
+#include <stdint.h>
+
+#ifdef __cplusplus
+extern "C" {
+#endif
+
+/* Whether v is a vector. Done with 0 elements. Refusals: 1, 4. */
+void blathersike_check(const uint16_t *v, size_t v_length, uint64_t answer[2]);
+
+/*
+ * Vector to merge table: 3(n-1) numbers, row after row, in the order of merges, the child with the smaller least leaf first.
+ * Refusals: 1, 4, 3.
+ */
+void blathersike_to_table(const uint16_t *v, size_t v_length, uint16_t *out, size_t out_length, uint64_t answer[2]);
+
+/*
+ * Merge table to vector: n numbers. Takes any order of rows in which row t has the parent n+t and its children stand
+ * before it, children either way round. Refusals: 1, 2 (the rows are not 3(n-1) numbers), 5, 6 and 7 row by row, 3.
+ */
+void blathersike_from_table(size_t leaves, const uint16_t *rows, size_t rows_length, uint16_t *out, size_t out_length,
+                            uint64_t answer[2]);
+
+/* Vector to Newick text: at most 6,056 bytes, no ending zero. Refusals: 1, 4, 3. */
+void blathersike_to_newick(const uint16_t *v, size_t v_length, uint8_t *out, size_t out_length, uint64_t answer[2]);
+
+/* Newick text to vector: n numbers. Refusals: 2 (above 6,056 bytes, place 6056), 8, 1, 9, 3. */
+void blathersike_from_newick(const uint8_t *text, size_t text_length, uint16_t *out, size_t out_length,
+                             uint64_t answer[2]);
+
+/* Vector to packed record: at most 1,280 bytes. Refusals: 1, 4, 3. */
+void blathersike_pack(const uint16_t *v, size_t v_length, uint8_t *out, size_t out_length, uint64_t answer[2]);
+
+/*
+ * Packed record to vector: n numbers. Refusals: 2 (under 2 bytes, place 2), 1, 2 (not the length of a record of n leaves),
+ * 4, 10, 3.
+ */
+void blathersike_unpack(const uint8_t *record, size_t record_length, uint16_t *out, size_t out_length,
+                        uint64_t answer[2]);
+
+/*
+ * Queue Shuffle: relabels the leaves so that v(i) < i for all i from 1. Leaf x becomes new_labels[x], and out is the vector
+ * of the relabelled tree; n numbers each. Refusals: 1, 4, 3 (place n if either output is short; then neither is touched).
+ */
+void blathersike_shuffle(const uint16_t *v, size_t v_length, uint16_t *new_labels, size_t new_length, uint16_t *out,
+                         size_t out_length, uint64_t answer[2]);
+
+/*
+ * The vector of the tree with leaf x relabelled p[x]: n numbers. Refusals: 1, 4, 2 (p has not n elements, place n), 11, 3.
+ */
+void blathersike_relabel(const uint16_t *v, size_t v_length, const uint16_t *p, size_t p_length, uint16_t *out,
+                         size_t out_length, uint64_t answer[2]);
+
+#ifdef __cplusplus
+}
+#endif
+
+#endif
