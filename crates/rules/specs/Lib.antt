@@ -8,4 +8,5 @@ pub mod Record
 pub mod Shuffle
 pub mod Answer
 pub mod Calls
+pub mod Listing
 pub mod Samples

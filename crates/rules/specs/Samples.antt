@@ -1,5 +1,6 @@
 -- The marked samples of 01, proved of the definitions: one table, one statement.
--- Main results: samples-hold (the table), worked-hold (more of them), orders-hold (which refusal comes first), texts-read (by the grammar), turned-back (every vector of up to five entries, from its tree, table and record).
+-- Main results: samples-hold (the table), worked-hold (more of them), orders-hold (which refusal comes first), texts-read (by the
+-- grammar), turned-back (every vector of up to five entries, from its tree, table and record), listing-sample.
 use mathlib.Core.Bool.{Bool, true, false, _&&_}
 use mathlib.Core.List.{List, [], _∷_, _++_, map, flatMap}
 use mathlib.Core.Path.{_≡_, refl}
@@ -17,6 +18,7 @@ use Rattle.rules.specs.Table.{tableOf}
 use Rattle.rules.specs.Newick.{pairText, allDigits, valueFrom, nought, number, Node, label, pair, text}
 use Rattle.rules.specs.Record.{recordOf}
 use Rattle.rules.specs.Answer.{Made, made, refuses}
+use Rattle.rules.specs.Listing.{listing}
 use Rattle.rules.specs.Calls.{check, toTable, fromTable, toText, fromLabels, FromText, reads-as, pack, unpack, shuffleNew, shuffleVector, relabel}
 
 -- the bytes of a quoted text
@@ -185,3 +187,9 @@ allComeBack (v ∷ vs) = comesBack v && allComeBack vs
 turned-back : allComeBack (vectors 1 ++ vectors 2 ++ vectors 3 ++ vectors 4 ++ vectors 5) ≡ true
 unfolding allComeBack vectors
 turned-back = refl
+
+-- 01, "The listing program": its sample
+listing-sample : listing 10 (0x00 ∷ 0x8C ∷ 0x00 ∷ 0x40 ∷ 0x00 ∷ 0x91 ∷ 0x00 ∷ [])
+    ≡ bytes "4 0,0,1,4 ((0,(1,2)),3);\n2 0,0 (0,1);\n4 0,0,2,1 ((0,(1,3)),2);\nrefused 2 2\n"
+unfolding listing
+listing-sample = refl
