@@ -19,9 +19,11 @@
 -- "the child with the smaller least leaf first"
 --     Stands.tree-stands; the leaves of the tree: TreeOf.tree-leaves.
 -- What a shortened vector means (a later request): Shortened.shortened-valid, shortened-tree, shortened-clades.
--- What comes back: Answers.reads-unique; FromVector has when a call that begins from a vector refuses.
+-- What comes back: Answers.reads-unique. When a call refuses: Guards, FromVector, FromTable.
 pub mod Answers
+pub mod Guards
 pub mod FromVector
+pub mod FromTable
 pub mod TreeOf
 pub mod Stands
 pub mod FactOne

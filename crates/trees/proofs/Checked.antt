@@ -15,16 +15,16 @@ use Rattle.rules.specs.declared.Refusal.{Refusal}
 use Rattle.rules.specs.declared.Answer.{Answer}
 use Rattle.rules.specs.declared.Answer.the-variants.{Done, Refused}
 use Rattle.rules.specs.Calls.{fromVector, check}
-use Rattle.laws.specs.FromVector.{no-leaf, many-leaves, above-bound, within-bounds}
+use Rattle.laws.specs.FromVector.{no-entry, many-entries, above-bound, within-bounds}
 use Rattle.vector.specs.Fault.{firstFault, first-fault-some, first-fault-none, no-fault-valid, valid-no-fault}
 
 pub empty-refused : (v : List ℕ) (o : Outcome) → length v ≡ 0 → o ≡ refused 1 0 → o ≡ answer (check v) 0
-unfolding check fromVector answer
-empty-refused v o e h = rw (no-leaf (length v) _ e) h
+unfolding check answer
+empty-refused v o e h = rw (no-entry v (made []) e) h
 
 pub large-refused : (v : List ℕ) (o : Outcome) → 1024 < length v → o ≡ refused 1 0 → o ≡ answer (check v) 0
-unfolding check fromVector answer
-large-refused v o l h = rw (many-leaves (length v) _ l) h
+unfolding check answer
+large-refused v o l h = rw (many-entries v (made []) l) h
 
 pub fault-refused : (v : List ℕ) (o : Outcome) (i : ℕ) → 1 ≤ length v → length v ≤ 1024 → i ≡ firstFault v → i < length v → o ≡ refused 4 i → o ≡ answer (check v) 0
 unfolding check answer
@@ -44,7 +44,6 @@ pub data Seen (v : List ℕ) : Type 0 where
   sound : Valid v → length v ≤ 1024 → ((m : Made) → fromVector v m ≡ m) → Seen v
 
 pub seen : (v : List ℕ) → Seen v
-unfolding fromVector
 seen v = count (eqb (length v) 0) refl
   where
     entries : 1 ≤ length v → length v ≤ 1024 → (o : Option ℕ) → fault 0 v ≡ o → Seen v
@@ -52,11 +51,11 @@ seen v = count (eqb (length v) 0) refl
     entries l u none e = sound (no-fault-valid v l e) u (λ m. within-bounds v m l u e)
 
     large : 1 ≤ length v → (b : Bool) → ltb 1024 (length v) ≡ b → Seen v
-    large l true q = faulty 1 0 (λ m. many-leaves (length v) _ (ltb-true 1024 (length v) q))
+    large l true q = faulty 1 0 (λ m. many-entries v m (ltb-true 1024 (length v) q))
     large l false q = entries l (ltb-false 1024 (length v) q) (fault 0 v) refl
 
     count : (b : Bool) → eqb (length v) 0 ≡ b → Seen v
-    count true q = faulty 1 0 (λ m. no-leaf (length v) _ (eqb-true (length v) 0 q))
+    count true q = faulty 1 0 (λ m. no-entry v m (eqb-true (length v) 0 q))
     count false q = large (omega (arith, eqb-false (length v) 0 q)) (ltb 1024 (length v)) refl
 
 not-both : (k number place : ℕ) → done k ≡ refused number place → ⊥
