@@ -7,6 +7,7 @@ ghost use mathlib.Core.Path.{_≡_};
 ghost use lib.ListN.{length};
 ghost use Rattle.rules.specs.Answer.{refused, numberOf, reads, answer, after};
 ghost use Rattle.rules.specs.Calls as calls;
+ghost use Rattle.rules.specs.Calls.{toTable};
 
 // Whether v is a vector: 1, 4.
 pub fn check(v: &[u16]) -> Answer
@@ -24,6 +25,24 @@ pub fn check(v: &[u16]) -> Answer
         return refuse(Kind::Entry, i);
     }
     Answer::Done(0)
+}
+
+// Vector to merge table: 1, 4, 3.
+pub fn to_table(v: &[u16], out: &mut [u16]) -> Answer
+    ensures { λ r. ⌜ reads r ≡ answer (toTable (now (v .entry))) (length (now (out .entry))) ⌝ }
+    ensures { λ r. ⌜ now (out .exit) ≡ after (toTable (now (v .entry))) (length (now (out .entry))) (now (out .entry)) ⌝ }
+{
+    match check(v) {
+        Answer::Refused(why) => Answer::Refused(why),
+        Answer::Done(_) => {
+            let needed = 3 * (v.len() - 1);
+            if out.len() < needed {
+                return refuse(Kind::Room, needed);
+            }
+            table::write_table(v, out);
+            Answer::Done(needed)
+        }
+    }
 }
 
 // The refusal of a kind at a place.

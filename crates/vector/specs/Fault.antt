@@ -1,6 +1,6 @@
 -- The first entry above its bound, as a number.
 -- Main definition: firstFault. Main results: no-fault-valid, valid-no-fault, first-fault-none, first-fault-some, fault-inside.
-use mathlib.Core.Path.{_≡_, refl, _∙_}
+use mathlib.Core.Path.{_≡_, refl, sym, ap, _∙_}
 use mathlib.Core.Bool.{Bool, true, false, cond}
 use mathlib.Core.List.{List, [], _∷_}
 use mathlib.Core.Option.{Option, none, some, Option·getD, Option·some-injective, Option·none-ne-some, Option·some-ne-none}

@@ -1,5 +1,6 @@
 use Prim.Native.Nat.{_-_}
 use Rattle.vector.specs.Front.{Copied, copied-start, copied-next, copied-end}
+use native.Mathlib.Omega.{arith}
 use borrow.Author.Needs.{needs}
 use Rattle.vector.proofs.copy_out.Statement.{statement}
 use Rattle.vector.proofs.copy_out.Tie as tie

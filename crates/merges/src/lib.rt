@@ -1,0 +1,87 @@
+ghost use mathlib.Core.Path.{_≡_};
+ghost use mathlib.Core.List.{map};
+ghost use Prim.Native.Nat.{_+_, _-_, _<_, _≤_};
+ghost use lib.ListN.{length, take, drop, getD};
+ghost use Rattle.rules.specs.Vector.{Valid};
+ghost use Rattle.merging.specs.Insertion.{pairs};
+ghost use Rattle.merges.specs.Moved.{ins, moved};
+ghost use Rattle.merges.specs.Held.{held, place, nameAt};
+use vector::wide;
+
+// The names behind e, as far as `at`, move down over the name at e, and w follows them.
+fn move_down(list: &mut [u16], e: usize, at: usize, w: u16)
+    requires { ⌜ (e ≤ at) × (at < length (now list)) ⌝ }
+    ensures { λ r. ⌜ now (list .exit) ≡ moved e at w (now (list .entry)) ⌝ }
+{
+    let mut k = e;
+    while k < at {
+        list[k] = list[k + 1];
+        k += 1;
+    }
+    list[at] = w;
+}
+
+// The names from `at` on, as far as e, move up over the name at e, and w stands before them.
+fn move_up(list: &mut [u16], e: usize, at: usize, w: u16)
+    requires { ⌜ (at ≤ e) × (e < length (now list)) ⌝ }
+    ensures { λ r. ⌜ now (list .exit) ≡ moved e at w (now (list .entry)) ⌝ }
+{
+    let mut k = e;
+    while at < k {
+        list[k] = list[k - 1];
+        k -= 1;
+    }
+    list[at] = w;
+}
+
+// Puts w before number s of the m names that start at lo, by moving the shorter side. The result is where they start then.
+fn insert(list: &mut [u16], lo: usize, m: usize, s: usize, w: u16) -> usize
+    requires { ⌜ (1 ≤ lo) × (s ≤ m) × (lo + m < length (now list)) ⌝ }
+    ensures { λ r. ⌜ (r ≤ lo) × (lo ≤ r + 1) × (take (m + 1) (drop r (now (list .exit))) ≡ ins s w (take m (drop lo (now (list .entry))))) ⌝ }
+{
+    if s < m - s {
+        move_down(list, lo - 1, lo - 1 + s, w);
+        return lo - 1;
+    }
+    move_up(list, lo + m, lo + s, w);
+    lo
+}
+
+// Before how many merges leaf i's merge stands, where its entry is x.
+fn place_of(x: usize, i: usize) -> usize
+    requires { ⌜ x ≤ 65535 ⌝ }
+    ensures { λ r. ⌜ r ≡ place x i ⌝ }
+{
+    if x < i { 0 } else { x - i + 1 }
+}
+
+// The smaller name of leaf i's merge, where its entry is x and the larger names of the merges before start at lo.
+fn name_at(list: &[u16], small: &[u16], lo: usize, x: usize, i: usize) -> u16
+    requires { ⌜ (x ≤ 65535) × (lo + (x - i) < length (now list)) × (i ≤ x → getD (now list) (lo + (x - i)) 0 < length (now small)) ⌝ }
+    ensures { λ r. ⌜ r ≡ nameAt (now (list .entry)) (now (small .entry)) lo x i ⌝ }
+{
+    if x < i {
+        return x as u16;
+    }
+    small[wide(list[lo + (x - i)])]
+}
+
+// Writes the merges of v: their larger names into list, which grows at both ends from its middle, and for each of them the
+// smaller name into small. The result is where the list starts.
+pub fn merges(v: &[u16], list: &mut [u16], small: &mut [u16]) -> usize
+    requires { ⌜ Valid (now v) × (length (now v) ≤ 1024) × (length (now list) ≡ 2048) × (length (now small) ≡ 1024) ⌝ }
+    ensures { λ r. ⌜ (r + (length (now (v .entry)) - 1) ≤ 2048)
+        × (map (held (now (small .exit))) (take (length (now (v .entry)) - 1) (drop r (now (list .exit)))) ≡ pairs (now (v .entry))) ⌝ }
+{
+    let n = v.len();
+    let mut lo: usize = 1024;
+    let mut i: usize = 1;
+    while i < n {
+        let x = wide(v[i]);
+        let s = place_of(x, i);
+        small[i] = name_at(list, small, lo, x, i);
+        lo = insert(list, lo, i - 1, s, i as u16);
+        i += 1;
+    }
+    lo
+}

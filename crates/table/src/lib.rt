@@ -1,0 +1,89 @@
+ghost use mathlib.Core.Path.{_≡_};
+ghost use mathlib.Core.List.{_++_, map};
+ghost use Prim.Native.Nat.{ℕ, _-_, _*_, _<_, _≤_};
+ghost use lib.ListN.{length, take, drop, getD};
+ghost use Rattle.rules.specs.Vector.{Valid};
+ghost use Rattle.rules.specs.Table.{flat, rowsFrom};
+ghost use Rattle.merging.specs.Insertion.{pairs};
+ghost use Rattle.table.specs.Rows.{first, second, tied};
+ghost use Rattle.table.specs.Children.{heldRows, Held};
+use vector::wide;
+
+// Each leaf is its own node.
+fn number_leaves(number: &mut [u16], n: usize)
+    requires { ⌜ (n ≤ length (now number)) × (n ≤ 1024) ⌝ }
+    ensures { λ r. ⌜ ((c : ℕ) → c < n → getD (now (number .exit)) c 0 ≡ c) ⌝ }
+{
+    let mut c: usize = 0;
+    while c < n {
+        number[c] = c as u16;
+        c += 1;
+    }
+}
+
+// The children of the rows of the merges that list and small hold; number has the node of each name.
+fn children(
+    list: &[u16],
+    small: &[u16],
+    start: usize,
+    n: usize,
+    number: &mut [u16],
+    left: &mut [u16],
+    right: &mut [u16],
+)
+    requires { ⌜ Held (now list) (now small) start n (now number) (now left) (now right) ⌝ }
+    ensures { λ r. ⌜ now (left .exit) ≡ map first (heldRows (now (list .entry)) (now (small .entry)) start n) ++ drop (n - 1) (now (left .entry)) ⌝ }
+    ensures { λ r. ⌜ now (right .exit) ≡ map second (heldRows (now (list .entry)) (now (small .entry)) start n) ++ drop (n - 1) (now (right .entry)) ⌝ }
+{
+    let last = n - 1;
+    let mut t: usize = 0;
+    while t < last {
+        let b = wide(list[start + t]);
+        let a = wide(small[b]);
+        left[t] = number[a];
+        right[t] = number[b];
+        number[a] = (n + t) as u16;
+        t += 1;
+    }
+}
+
+// The children of the rows of v's table.
+pub fn rows_of(v: &[u16], left: &mut [u16], right: &mut [u16])
+    requires { ⌜ Valid (now v) × (length (now v) ≤ 1024) × (length (now left) ≡ 1024) × (length (now right) ≡ 1024) ⌝ }
+    ensures { λ r. ⌜ now (left .exit) ≡ map first (rowsFrom (length (now (v .entry))) (λ c. c) (pairs (now (v .entry)))) ++ drop (length (now (v .entry)) - 1) (now (left .entry)) ⌝ }
+    ensures { λ r. ⌜ now (right .exit) ≡ map second (rowsFrom (length (now (v .entry))) (λ c. c) (pairs (now (v .entry)))) ++ drop (length (now (v .entry)) - 1) (now (right .entry)) ⌝ }
+{
+    let n = v.len();
+    let mut list = [0u16; 2048];
+    let mut small = [0u16; 1024];
+    let start = merges::merges(v, &mut list, &mut small);
+    let mut number = [0u16; 1024];
+    number_leaves(&mut number, n);
+    children(&list, &small, start, n, &mut number, left, right);
+}
+
+// Rows of n leaves with these children, as numbers in a row.
+pub fn write_rows(left: &[u16], right: &[u16], n: usize, out: &mut [u16])
+    requires { ⌜ (1 ≤ n) × (n ≤ 1024) × (n - 1 ≤ length (now left)) × (n - 1 ≤ length (now right)) × (3 * (n - 1) ≤ length (now out)) ⌝ }
+    ensures { λ r. ⌜ now (out .exit) ≡ flat (tied n (take (n - 1) (now (left .entry))) (take (n - 1) (now (right .entry)))) ++ drop (3 * (n - 1)) (now (out .entry)) ⌝ }
+{
+    let last = n - 1;
+    let mut t: usize = 0;
+    while t < last {
+        out[3 * t] = left[t];
+        out[3 * t + 1] = right[t];
+        out[3 * t + 2] = (n + t) as u16;
+        t += 1;
+    }
+}
+
+// The table of v: its children are built in local arrays and copied out with their parents.
+pub fn write_table(v: &[u16], out: &mut [u16])
+    requires { ⌜ Valid (now v) × (length (now v) ≤ 1024) × (3 * (length (now v) - 1) ≤ length (now out)) ⌝ }
+    ensures { λ r. ⌜ now (out .exit) ≡ flat (rowsFrom (length (now (v .entry))) (λ c. c) (pairs (now (v .entry)))) ++ drop (3 * (length (now (v .entry)) - 1)) (now (out .entry)) ⌝ }
+{
+    let mut left = [0u16; 1024];
+    let mut right = [0u16; 1024];
+    rows_of(v, &mut left, &mut right);
+    write_rows(&left, &right, v.len(), out);
+}
