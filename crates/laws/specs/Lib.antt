@@ -19,11 +19,12 @@
 -- "the child with the smaller least leaf first"
 --     Stands.tree-stands; the leaves of the tree: TreeOf.tree-leaves.
 -- What a shortened vector means (a later request): Shortened.shortened-valid, shortened-tree, shortened-clades.
--- What comes back: Answers.reads-unique. When a call refuses: Guards, FromVector, FromTable.
+-- What comes back: Answers.reads-unique. When a call refuses: Guards, FromVector, FromTable, FromRecord.
 pub mod Answers
 pub mod Guards
 pub mod FromVector
 pub mod FromTable
+pub mod FromRecord
 pub mod TreeOf
 pub mod Stands
 pub mod FactOne

@@ -1,10 +1,10 @@
 -- The loop that builds the merges of a vector: the two lists hold the merges of the first i entries.
 -- Main definitions: Built, Turn. Main results: built-start, turn, built-next, built-end.
 use mathlib.Core.Path.{_≡_, refl, sym, ap, _∙_}
-use mathlib.Core.List.{List, [], _∷_, map}
-use Prim.Native.Nat.{ℕ, zero, suc, _+_, _-_, _*_, _≤_, _<_}
+use mathlib.Core.List.{List, map}
+use Prim.Native.Nat.{ℕ, _+_, _-_, _*_, _≤_, _<_}
 use native.Mathlib.Omega.{arith}
-use lib.ListN.{length, take, drop, getD, set, length-map, length-take, length-drop, length-set}
+use lib.ListN.{length, take, drop, getD, set, length-take, length-drop, length-set}
 use Rattle.rules.specs.Vector.{entry, bound, Valid}
 use Rattle.rules.specs.Building.{Merge}
 use Rattle.merging.specs.Insertion.{pairsOf, pairs, Bounded}
@@ -16,19 +16,19 @@ use Rattle.merges.specs.Held.{held, place, nameAt, nameIn, pairs-next, p
 pub record Built (v list small : List ℕ) (lo i : ℕ) : Type 0 where
   pub valid : Valid v
   pub few : length v ≤ 1024
-  pub size : length list ≡ 2048
+  pub size : length list ≡ 2080
   pub size-small : length small ≡ 1024
   pub low : 1 ≤ i
   pub high : i ≤ length v
-  pub above : 1025 ≤ lo + i
-  pub below : lo ≤ 1024
+  pub above : 1041 ≤ lo + i
+  pub below : lo ≤ 1040
   pub listed : map (held small) (take (i - 1) (drop lo list)) ≡ pairsOf (entry v) i
 
 pub valid-bounded : (v : List ℕ) (i : ℕ) → Valid v → i ≤ length v → Bounded (entry v) i
 unfolding Bounded bound
 valid-bounded v i ok h k l = ok .bounded k (omega arith)
 
-pub built-start : {v list small : List ℕ} → Valid v → length v ≤ 1024 → length list ≡ 2048 → length small ≡ 1024 → Built v list small 1024 1
+pub built-start : {v list small : List ℕ} → Valid v → length v ≤ 1024 → length list ≡ 2080 → length small ≡ 1024 → Built v list small 1040 1
 unfolding pairsOf
 built-start ok few size size-small = record {
   valid = ok;
@@ -46,10 +46,11 @@ built-start ok few size size-small = record {
 pub record Turn (list small : List ℕ) (lo i x s : ℕ) : Type 0 where
   pub top : x ≤ 2 * (i - 1)
   pub placed : s ≤ i - 1
-  pub first : 1 ≤ lo
-  pub inside : lo + (i - 1) < length list
+  pub first : 16 ≤ lo
+  pub inside : lo + (i - 1) + 16 ≤ length list
   pub looks : lo + (x - i) < length list
   pub finds : i ≤ x → getD list (lo + (x - i)) 0 < length small
+  pub few : i - 1 ≤ 1024
   pub stores : i < length small
 
 pub turn : {v list small : List ℕ} {lo i x s : ℕ} → Built v list small lo i → i < length v → x ≡ getD v i 0 → s ≡ place x i → Turn list small lo i x s
@@ -59,7 +60,7 @@ turn {v} {list} {small} {lo} {i} {x} {s} B h ex es =
     let top : x ≤ 2 * (i - 1) = omega arith in
     let p : place x i ≤ i - 1 = place-le x i top (B .low) in
     let few = B .few in
-    let inside : lo + (i - 1) < length list = omega arith in
+    let inside : lo + (i - 1) + 16 ≤ length list = omega arith in
     let P = pairsOf (entry v) i in
     record {
       top = top;
@@ -70,6 +71,7 @@ turn {v} {list} {small} {lo} {i} {x} {s} B h ex es =
       finds = λ l.
           let m = merge-at list small lo (i - 1) P (B .listed) (x - i) (omega arith) (omega (arith, length-take (i - 1) (drop lo list), length-drop lo list)) in
           omega (arith, larger-below i P (under-pairs (entry v) i) (x - i) (omega (arith, pairs-long (entry v) i (B .low))), ap (λ (q : Merge). q .1) m);
+      few = omega arith;
       stores = omega arith;
     }
 
@@ -101,7 +103,7 @@ built-next {v} {list} {list′} {small} {lo} {lo′} {i} {x} {s} {a} B h ex es e
           (sym (pairs-next (entry v) i (B .low)));
     }
 
-pub built-end : {v list small : List ℕ} {lo i : ℕ} → Built v list small lo i → length v ≤ i → (lo + (length v - 1) ≤ 2048) × (map (held small) (take (length v - 1) (drop lo list)) ≡ pairs v)
+pub built-end : {v list small : List ℕ} {lo i : ℕ} → Built v list small lo i → length v ≤ i → (lo + (length v - 1) ≤ 2080) × (map (held small) (take (length v - 1) (drop lo list)) ≡ pairs v)
 unfolding pairs
 built-end {v} {list} {small} {lo} {i} B h =
     let z : i ≡ length v = omega arith in

@@ -14,7 +14,6 @@ use borrow.Author.Tests.{ltb-false}
 use Rattle.rules.specs.Building.{Merge}
 use Rattle.merging.specs.Insertion.{put, insert, pairsOf, pairs-length}
 use Rattle.merging.specs.Greedy.{Under}
-use Rattle.merging.specs.Named.{Rising}
 use Rattle.merges.specs.Moved.{ins}
 
 -- the merge of the larger name i

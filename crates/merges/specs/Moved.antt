@@ -4,12 +4,12 @@ use mathlib.Core.Path.{_≡_, refl, sym, ap, _∙_}
 use mathlib.Core.Bool.{Bool, true, false}
 use mathlib.Core.List.{List, [], _∷_, _++_}
 use Prim.Native.Nat.{ℕ, zero, suc, _+_, _-_, _≤_, _<_}
-use native.Mathlib.Nat.{zero-add, add-zero}
+use native.Mathlib.Nat.{zero-add}
 use native.Mathlib.Numerals.{add-one}
 use native.Mathlib.Omega.{arith}
 use lib.Dec.{ltb}
 use lib.ListN.{length, take, drop, getD, set, length-append, length-take, length-drop, length-set}
-use lib.Seq.{ext-getD, take-at, length-take-le, drop-drop, drop-nil, take-nil}
+use lib.Seq.{ext-getD, take-append-le, take-take, drop-drop}
 use borrow.Author.Tests.{ltb-true, ltb-false}
 use Rattle.vector.specs.Front.{mix, mix-step, mix-down, mix-length, mix-above, mix-below}
 
@@ -222,20 +222,42 @@ drop-moved (suc lo) e s a (x ∷ l) h =
     let q : suc lo + s ≡ suc (lo + s) = omega arith in
     rw (p, q) (drop-moved lo e s a l (omega arith))
 
--- the m words that stood from lo on: one more of them, before number s, from one place further down on
-pub window-down : (lo m s a : ℕ) (l : List ℕ) → 1 ≤ lo → s ≤ m → lo + m < length l → take (m + 1) (drop (lo - 1) (moved (lo - 1) (lo - 1 + s) a l)) ≡ ins s a (take m (drop lo l))
+-- what stands before an inserted element has no part in it
+drop-ins : (d s a : ℕ) (l : List ℕ) → d ≤ length l → drop d (ins (d + s) a l) ≡ ins s a (drop d l)
+unfolding ins
+drop-ins zero s a l h = rw (zero-add s)
+drop-ins (suc d) s a [] h = absurd (omega arith)
+drop-ins (suc d) s a (x ∷ l) h = let q : suc d + s ≡ suc (d + s) = omega arith in rw q (drop-ins d s a l (omega arith))
+
+moved-first : (s a : ℕ) (l : List ℕ) → moved 0 s a l ≡ ins s a (drop 1 l)
 unfolding moved
-window-down lo m s a l h g f =
-    let p : lo - 1 + 0 ≡ lo - 1 = omega arith in
-    let q : lo - 1 + 1 ≡ lo = omega arith in
-    let e : drop (lo - 1) (moved (lo - 1) (lo - 1 + s) a l) ≡ ins s a (drop lo l) =
-    rw p at (drop-moved (lo - 1) 0 s a l (omega arith)) ∙ ap (ins s a) (drop-drop 1 (lo - 1) l ∙ rw q) in
-    rw e (ins-take s m a (drop lo l) g)
+moved-first s a l = refl
+
+window-from : (e d s a : ℕ) (l : List ℕ) → e + d < length l → drop (e + d) (moved e (e + (d + s)) a l) ≡ ins s a (drop (e + 1 + d) l)
+window-from e d s a l h =
+    let p : e + 0 ≡ e = omega arith in
+    sym (drop-drop d e (moved e (e + (d + s)) a l))
+    ∙ ap (drop d)
+    (rw p at (drop-moved e 0 (d + s) a l (omega arith)) ∙ moved-first (d + s) a (drop e l) ∙ ap (ins (d + s) a) (drop-drop 1 e l))
+    ∙ drop-ins d s a (drop (e + 1) l) (omega (arith, length-drop (e + 1) l))
+    ∙ ap (ins s a) (drop-drop d (e + 1) l)
+
+-- The m names that stood from lo on: one more of them, before number s, from one place further down on. More than these may have moved.
+pub window-down : (lo m s a e : ℕ) (l : List ℕ) → 1 ≤ lo → e ≤ lo - 1 → s ≤ m → lo + m < length l → take (m + 1) (drop (lo - 1) (moved e (lo - 1 + s) a l)) ≡ ins s a (take m (drop lo l))
+window-down lo m s a e l h k g f =
+    let p : e + (lo - 1 - e + s) ≡ lo - 1 + s = omega arith in
+    let q : e + (lo - 1 - e) ≡ lo - 1 = omega arith in
+    let r : e + 1 + (lo - 1 - e) ≡ lo = omega arith in
+    ap (take (m + 1)) (rw (p, q, r) at (window-from e (lo - 1 - e) s a l (omega arith))) ∙ ins-take s m a (drop lo l) g
 
 -- and from the same place on
-pub window-up : (lo m s a : ℕ) (l : List ℕ) → s ≤ m → lo + m < length l → take (m + 1) (drop lo (moved (lo + m) (lo + s) a l)) ≡ ins s a (take m (drop lo l))
+pub window-up : (lo m s a e : ℕ) (l : List ℕ) → s ≤ m → lo + m ≤ e → e < length l → take (m + 1) (drop lo (moved e (lo + s) a l)) ≡ ins s a (take m (drop lo l))
 unfolding moved
-window-up lo m s a l g f =
-    rw (drop-moved lo m s a l f)
-    (ins-take s m a (take m (drop lo l) ++ drop (suc m) (drop lo l)) g
-    ∙ ap (ins s a) (take-at (take m (drop lo l)) (drop (suc m) (drop lo l)) m (length-take-le m (drop lo l) (omega (arith, length-drop lo l)))))
+window-up lo m s a e l g k f =
+    let w = drop lo l in
+    let q : lo + (e - lo) ≡ e = omega arith in
+    ap (take (m + 1)) (rw q at (drop-moved lo (e - lo) s a l (omega arith)))
+    ∙ ins-take s m a (take (e - lo) w ++ drop (suc (e - lo)) w) g
+    ∙ ap (ins s a)
+    (take-append-le m (take (e - lo) w) (drop (suc (e - lo)) w) (omega (arith, length-take (e - lo) w, length-drop lo l))
+    ∙ take-take m (e - lo) w (omega arith))

@@ -14,7 +14,7 @@ fn move_down(list: &mut [u16], e: usize, at: usize, w: u16)
     ensures { λ r. ⌜ now (list .exit) ≡ moved e at w (now (list .entry)) ⌝ }
 {
     let mut k = e;
-    while k < at {
+    while k != at {
         list[k] = list[k + 1];
         k += 1;
     }
@@ -27,23 +27,34 @@ fn move_up(list: &mut [u16], e: usize, at: usize, w: u16)
     ensures { λ r. ⌜ now (list .exit) ≡ moved e at w (now (list .entry)) ⌝ }
 {
     let mut k = e;
-    while at < k {
+    while k != at {
         list[k] = list[k - 1];
         k -= 1;
     }
     list[at] = w;
 }
 
-// Puts w before number s of the m names that start at lo, by moving the shorter side. The result is where they start then.
+// A count of sixteens that is enough for k: a loop of whole blocks has no rest to move one by one.
+fn blocks(k: usize) -> usize
+    requires { ⌜ k ≤ 1024 ⌝ }
+    ensures { λ r. ⌜ (k ≤ r) × (r ≤ k + 15) ⌝ }
+{
+    (k + 15) / 16 * 16
+}
+
+// Puts w before number s of the m names that start at lo, by moving the shorter side and some of what lies beyond it. The
+// result is where the names start then.
 fn insert(list: &mut [u16], lo: usize, m: usize, s: usize, w: u16) -> usize
-    requires { ⌜ (1 ≤ lo) × (s ≤ m) × (lo + m < length (now list)) ⌝ }
+    requires { ⌜ (16 ≤ lo) × (s ≤ m) × (m ≤ 1024) × (lo + m + 16 ≤ length (now list)) ⌝ }
     ensures { λ r. ⌜ (r ≤ lo) × (lo ≤ r + 1) × (take (m + 1) (drop r (now (list .exit))) ≡ ins s w (take m (drop lo (now (list .entry))))) ⌝ }
 {
     if s < m - s {
-        move_down(list, lo - 1, lo - 1 + s, w);
+        let at = lo - 1 + s;
+        move_down(list, at - blocks(s), at, w);
         return lo - 1;
     }
-    move_up(list, lo + m, lo + s, w);
+    let at = lo + s;
+    move_up(list, at + blocks(m - s), at, w);
     lo
 }
 
@@ -69,12 +80,12 @@ fn name_at(list: &[u16], small: &[u16], lo: usize, x: usize, i: usize) -> u16
 // Writes the merges of v: their larger names into list, which grows at both ends from its middle, and for each of them the
 // smaller name into small. The result is where the list starts.
 pub fn merges(v: &[u16], list: &mut [u16], small: &mut [u16]) -> usize
-    requires { ⌜ Valid (now v) × (length (now v) ≤ 1024) × (length (now list) ≡ 2048) × (length (now small) ≡ 1024) ⌝ }
-    ensures { λ r. ⌜ (r + (length (now (v .entry)) - 1) ≤ 2048)
+    requires { ⌜ Valid (now v) × (length (now v) ≤ 1024) × (length (now list) ≡ 2080) × (length (now small) ≡ 1024) ⌝ }
+    ensures { λ r. ⌜ (r + (length (now (v .entry)) - 1) ≤ 2080)
         × (map (held (now (small .exit))) (take (length (now (v .entry)) - 1) (drop r (now (list .exit)))) ≡ pairs (now (v .entry))) ⌝ }
 {
     let n = v.len();
-    let mut lo: usize = 1024;
+    let mut lo: usize = 1040;
     let mut i: usize = 1;
     while i < n {
         let x = wide(v[i]);

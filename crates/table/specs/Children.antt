@@ -2,8 +2,8 @@
 -- Main definitions: heldMerges, heldRows, Held, Numbered. Main results: numbered-start, turn, numbered-next, numbered-end.
 use mathlib.Core.Path.{_≡_, refl, sym, ap, ap₂, _∙_}
 use mathlib.Core.Bool.{Bool, true, false, cond}
-use mathlib.Core.List.{List, [], _∷_, _++_, map}
-use Prim.Native.Nat.{ℕ, zero, suc, _+_, _-_, _*_, _≤_, _<_}
+use mathlib.Core.List.{List, _∷_, _++_, map}
+use Prim.Native.Nat.{ℕ, suc, _+_, _-_, _≤_, _<_}
 use native.Mathlib.Numerals.{add-one}
 use native.Mathlib.Omega.{arith}
 use lib.Dec.{eqb}
@@ -212,8 +212,8 @@ unfolding pairs
 pairs-inside v ok =
     inside (length v) (pairsOf (entry v) (length v)) (under-pairs (entry v) (length v)) (rising (entry v) (length v) (valid-bounded v (length v) ok (omega arith)))
 
-pub held-of : {v list small : List ℕ} {start : ℕ} {number left right : List ℕ} → Valid v → length v ≤ 1024 → start + (length v - 1) ≤ 2048
-    → map (held small) (take (length v - 1) (drop start list)) ≡ pairs v → length list ≡ 2048 → length small ≡ 1024 → length number ≡ 1024
+pub held-of : {v list small : List ℕ} {start : ℕ} {number left right : List ℕ} → Valid v → length v ≤ 1024 → start + (length v - 1) ≤ 2080
+    → map (held small) (take (length v - 1) (drop start list)) ≡ pairs v → length list ≡ 2080 → length small ≡ 1024 → length number ≡ 1024
     → length left ≡ 1024 → length right ≡ 1024 → ((c : ℕ) → c < length v → getD number c 0 ≡ c) → Held list small start (length v) number left right
 unfolding heldMerges
 held-of {v} ok few room e ll ls ln l r itself = record {

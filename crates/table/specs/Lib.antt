@@ -1,3 +1,5 @@
 pub mod Rows
 pub mod Children
 pub mod Written
+pub mod Accepted
+pub mod Grown

@@ -2,13 +2,13 @@
 -- Main definitions: first, second, tied, Inside.
 -- Main results: rows-length, parent-at, tied-rows, rows-cong, flat-length, rowsOf-flat, flat-first, flat-second, flat-parent.
 use mathlib.Core.Path.{_≡_, refl, sym, ap, ap₂, _∙_}
-use mathlib.Core.Bool.{Bool, true, false, cond}
+use mathlib.Core.Bool.{cond}
 use mathlib.Core.List.{List, [], _∷_, map}
-use Prim.Native.Nat.{ℕ, zero, suc, _+_, _-_, _*_, _≤_, _<_}
+use Prim.Native.Nat.{ℕ, zero, suc, _+_, _*_, _<_}
 use native.Mathlib.Nat.{add-zero}
 use native.Mathlib.Omega.{arith}
 use lib.Dec.{eqb}
-use lib.ListN.{length, take, drop, getD}
+use lib.ListN.{length, drop, getD}
 use Rattle.rules.specs.Building.{Merge}
 use Rattle.rules.specs.Table.{Row, rowsFrom, flat, rowsOf}
 use Rattle.merging.specs.Greedy.{Under}

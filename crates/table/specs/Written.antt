@@ -1,10 +1,10 @@
 -- The loop that writes rows as numbers in a row, and the table that comes of it.
 -- Main definition: Written. Main results: written-start, written-next, written-end, whole-table.
 use mathlib.Core.Path.{_≡_, refl, sym, ap, ap₂, _∙_}
-use mathlib.Core.List.{List, [], _∷_, _++_, map}
-use Prim.Native.Nat.{ℕ, zero, suc, _+_, _-_, _*_, _≤_, _<_}
+use mathlib.Core.List.{List, _++_, map}
+use Prim.Native.Nat.{ℕ, _+_, _-_, _*_, _≤_, _<_}
 use native.Mathlib.Omega.{arith}
-use lib.ListN.{length, take, drop, getD, set, length-map, length-take, length-set}
+use lib.ListN.{length, take, drop, getD, set, length-map, length-set}
 use lib.Seq.{getD-take, length-take-le, take-all, take-at}
 use Rattle.rules.specs.Building.{Merge}
 use Rattle.rules.specs.Table.{Row, rowsFrom, flat}

@@ -54,7 +54,7 @@ pub fn rows_of(v: &[u16], left: &mut [u16], right: &mut [u16])
     ensures { λ r. ⌜ now (right .exit) ≡ map second (rowsFrom (length (now (v .entry))) (λ c. c) (pairs (now (v .entry)))) ++ drop (length (now (v .entry)) - 1) (now (right .entry)) ⌝ }
 {
     let n = v.len();
-    let mut list = [0u16; 2048];
+    let mut list = [0u16; 2080];
     let mut small = [0u16; 1024];
     let start = merges::merges(v, &mut list, &mut small);
     let mut number = [0u16; 1024];

@@ -3,6 +3,7 @@
 use rules::Answer;
 use rules::Kind;
 use rules::Refusal;
+use unpacking::Held;
 ghost use mathlib.Core.Path.{_≡_};
 ghost use lib.ListN.{length};
 ghost use Rattle.rules.specs.Answer.{refused, numberOf, reads, answer, after};
@@ -41,6 +42,57 @@ pub fn to_table(v: &[u16], out: &mut [u16]) -> Answer
             }
             table::write_table(v, out);
             Answer::Done(needed)
+        }
+    }
+}
+
+// Vector to packed record: 1, 4, 3.
+pub fn pack(v: &[u16], out: &mut [u8]) -> Answer
+    ensures { λ r. ⌜ reads r ≡ answer (calls.pack (now (v .entry))) (length (now (out .entry))) ⌝ }
+    ensures { λ r. ⌜ now (out .exit) ≡ after (calls.pack (now (v .entry))) (length (now (out .entry))) (now (out .entry)) ⌝ }
+{
+    match check(v) {
+        Answer::Refused(why) => Answer::Refused(why),
+        Answer::Done(_) => {
+            let needed = record::record_length(v.len());
+            if out.len() < needed {
+                return refuse(Kind::Room, needed);
+            }
+            record::pack_into(v, out);
+            Answer::Done(needed)
+        }
+    }
+}
+
+// Packed record to vector: 2 (under 2 bytes), 1, 2 (not the record's length), 4, 10, 3.
+pub fn unpack(s: &[u8], out: &mut [u16]) -> Answer
+    ensures { λ r. ⌜ reads r ≡ answer (calls.unpack (now (s .entry))) (length (now (out .entry))) ⌝ }
+    ensures { λ r. ⌜ now (out .exit) ≡ after (calls.unpack (now (s .entry))) (length (now (out .entry))) (now (out .entry)) ⌝ }
+{
+    if s.len() < 2 {
+        return refuse(Kind::InputLength, 2);
+    }
+    let n = record::leaf_count(s);
+    if n == 0 {
+        return refuse(Kind::LeafCount, 0);
+    }
+    if 1024 < n {
+        return refuse(Kind::LeafCount, 0);
+    }
+    let wanted = record::record_length(n);
+    if s.len() != wanted {
+        return refuse(Kind::InputLength, wanted);
+    }
+    let mut vector = [0u16; 1024];
+    match unpacking::entries_of(s, n, &mut vector) {
+        Held::Above(i) => refuse(Kind::Entry, i),
+        Held::Padding => refuse(Kind::Padding, wanted - 1),
+        Held::Entries => {
+            if out.len() < n {
+                return refuse(Kind::Room, n);
+            }
+            vector::copy_out(&vector, n, out);
+            Answer::Done(n)
         }
     }
 }

@@ -1,16 +1,17 @@
 -- The first entry above its bound, as a number.
--- Main definition: firstFault. Main results: no-fault-valid, valid-no-fault, first-fault-none, first-fault-some, fault-inside.
-use mathlib.Core.Path.{_≡_, refl, sym, ap, _∙_}
+-- Main definition: firstFault.
+-- Main results: no-fault-valid, valid-no-fault, first-fault-none, first-fault-some, fault-inside, fault-above, all-within.
+use mathlib.Core.Path.{_≡_, refl, _∙_}
 use mathlib.Core.Bool.{Bool, true, false, cond}
 use mathlib.Core.List.{List, [], _∷_}
 use mathlib.Core.Option.{Option, none, some, Option·getD, Option·some-injective, Option·none-ne-some, Option·some-ne-none}
 use Prim.Native.Nat.{ℕ, zero, suc, _+_, _-_, _*_, _≤_, _<_}
 use native.Mathlib.Numerals.{add-one}
 use native.Mathlib.Omega.{arith}
-use lib.Dec.{ltb}
+use lib.Dec.{eqb, ltb}
 use lib.ListN.{length, getD, drop}
 use lib.Seq.{drop-cons, drop-length}
-use borrow.Author.Tests.{ltb-true, ltb-false, lt-ltb, le-ltb}
+use borrow.Author.Tests.{eqb-true, eqb-false, ltb-true, ltb-false, lt-ltb, le-ltb}
 use Rattle.rules.specs.Vector.{entry, bound, Valid, fault}
 
 -- the number of the first entry above its bound, and the number of entries where there is none
@@ -129,3 +130,35 @@ pub empty-fault : (v : List ℕ) → length v ≡ 0 → 0 ≡ firstFault v
 unfolding fault firstFault
 empty-fault [] e = refl
 empty-fault (x ∷ v) e = absurd (omega arith)
+
+-- no entry is above its bound
+pub all-within : (v : List ℕ) → 1 ≤ length v → getD v 0 0 ≤ 0 → ((k : ℕ) → 1 ≤ k → k < length v → getD v k 0 ≤ 2 * (k - 1)) → length v ≡ firstFault v
+unfolding firstFault entry bound
+all-within v h z f =
+    let e : fault 0 v ≡ none = bounded-no-fault 0 v (λ k l. within k l) in
+    rw e
+  where
+    within : (k : ℕ) → k < length v → getD v k 0 ≤ 2 * (0 + k - 1)
+    within zero l = omega arith
+    within (suc k) l = let q : 0 + suc k ≡ suc k = omega arith in rw q (f (suc k) (omega arith) l)
+
+-- the loop that counts faults: where it has none, the entries before i are within their bounds
+pub record Counted (v : List ℕ) (faults i : ℕ) : Type 0 where
+  pub few : length v ≤ 1024
+  pub low : 1 ≤ i
+  pub high : i ≤ length v
+  pub fits : faults ≤ i
+  pub within : faults ≡ 0 → (k : ℕ) → 1 ≤ k → k < i → getD v k 0 ≤ 2 * (k - 1)
+
+pub counted-next : {v : List ℕ} {faults i more : ℕ} → Counted v faults i → i < length v → more ≤ 1 → (more ≡ 0 → getD v i 0 ≤ 2 * (i - 1)) → Counted v (faults + more) (i + 1)
+counted-next {v} {faults} {i} {more} C h m f = record {
+  few = C .few;
+  low = omega arith;
+  high = omega arith;
+  fits = omega arith;
+  within = λ e k l g. go k l g e (eqb k i) refl;
+}
+  where
+    go : (k : ℕ) → 1 ≤ k → k < i + 1 → faults + more ≡ 0 → (b : Bool) → eqb k i ≡ b → getD v k 0 ≤ 2 * (k - 1)
+    go k l g e true q = let z = eqb-true k i q in rw z (f (omega arith))
+    go k l g e false q = let z = eqb-false k i q in C .within (omega arith) k l (omega arith)

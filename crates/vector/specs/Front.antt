@@ -2,11 +2,11 @@
 -- Main definition: mix. Main results: mix-start, mix-step, mix-down, mix-end, mix-at.
 use mathlib.Core.Path.{_≡_, refl, sym, ap, _∙_}
 use mathlib.Core.List.{List, [], _∷_, _++_, append-assoc}
-use Prim.Native.Nat.{ℕ, zero, suc, _+_, _-_, _≤_, _<_}
+use Prim.Native.Nat.{ℕ, zero, suc, _+_, _≤_, _<_}
 use native.Mathlib.Numerals.{add-one}
 use native.Mathlib.Omega.{arith}
 use lib.ListN.{length, take, drop, getD, set, length-append, length-take, length-drop, take-append-drop}
-use lib.Seq.{take-suc, drop-cons, set-at, length-take-le, getD-at, getD-take, getD-drop, drop-nil}
+use lib.Seq.{take-suc, drop-cons, set-at, length-take-le, drop-nil}
 
 -- b's first k elements, then o's others
 unfoldable pub mix : ℕ → List ℕ → List ℕ → List ℕ

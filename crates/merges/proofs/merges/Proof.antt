@@ -1,16 +1,10 @@
+-- `merges` meets its contract: the lists hold the merges of the first i entries.
 use Prim.Native.Nat.{_-_}
-use lib.ListN.{length}
 use Rattle.merges.specs.Built.{Built, built-start, built-next, built-end, Turn, turn}
 use native.Mathlib.Omega.{arith}
 use borrow.Author.Needs.{needs}
 use Rattle.merges.proofs.merges.Statement.{statement}
 use Rattle.merges.proofs.merges.Tie as tie
-use Rattle.merges.proofs.merges.Reads as reads
-use Rattle.merges.proofs.merges.Lts as lts
-use Rattle.merges.proofs.insert.Reads as insert-reads
-use Rattle.merges.proofs.name_at.Reads as name-at-reads
-use Rattle.merges.proofs.place_of.Reads as place-of-reads
-use Rattle.vector.proofs.wide.Reads as wide-reads
 
 abbrev Inv-loop : tie.InvT-loop
 Inv-loop v list₀ small₀ n lo₀ i₀ list small lo i = Built v list small lo i
@@ -22,71 +16,54 @@ abbrev μ-loop : tie.MeasureT-loop
 here : (c : tie.After-place-of Inv-loop μ-loop) → Turn (c .before .before .before .before .loop .list) (c .before .before .before .before .loop .small) (c .before .before .before .before .loop .lo) (c .before .before .before .before .loop .i) (c .before .wide .result) (c .place-of .result)
 here c = turn (c .before .before .before .before .loop .inv) (c .before .before .before .loop-test .taken) (c .before .wide .ensures) (c .place-of .ensures)
 
--- src/lib.rt:81:5
 loop-holds : tie.Need-loop-holds Inv-loop μ-loop
 loop-holds c = built-start (c .before .before .before .pre .0) (c .before .before .before .pre .1) (c .before .before .before .pre .2) (c .before .before .before .pre .3)
 
--- src/lib.rt:82:22
 mul-wide : tie.Need-mul-wide Inv-loop μ-loop
 mul-wide c = search needs
 
--- src/lib.rt:82:22
 shared-slice-read-wide : tie.Need-shared-slice-read-wide Inv-loop μ-loop
 shared-slice-read-wide c = search needs
 
--- src/lib.rt:82:13
 wide-requires : tie.Need-wide-requires Inv-loop μ-loop
 wide-requires c κs = search needs
 
--- src/lib.rt:83:13
 place-of-requires : tie.Need-place-of-requires Inv-loop μ-loop
 place-of-requires c κs = omega (arith, c .before .shared-slice-known2 .given (c .before .before .before .loop .i), c .wide .ensures)
 
--- src/lib.rt:84:20
 name-at-requires : tie.Need-name-at-requires Inv-loop μ-loop
 name-at-requires c κs = let T = here (c .before .before) in (omega (arith, c .before .before .before .before .shared-slice-known2 .given (c .before .before .before .before .before .before .loop .i), c .before .before .before .wide .ensures), T .looks, T .finds)
 
--- src/lib.rt:84:9
 mul-small : tie.Need-mul-small Inv-loop μ-loop
 mul-small c = search needs
 
--- src/lib.rt:84:9
 slice-write-small : tie.Need-slice-write-small Inv-loop μ-loop
 slice-write-small c = here (c .before .before .before) .stores
 
--- src/lib.rt:85:31
 sub-insert : tie.Need-sub-insert Inv-loop μ-loop
 sub-insert c = search needs
 
--- src/lib.rt:85:41
 cast-insert : tie.Need-cast-insert Inv-loop μ-loop
 cast-insert c = let T = here (c .before .before .before .before) in omega (arith, c .before .before .before .before .before .before .before .before .loop .inv .size-small)
 
--- src/lib.rt:85:9
 insert-requires : tie.Need-insert-requires Inv-loop μ-loop
-insert-requires c κs = let T = here (c .before .before .before .before) in (T .first, T .placed, T .inside)
+insert-requires c κs = let T = here (c .before .before .before .before) in (T .first, T .placed, T .few, T .inside)
 
--- src/lib.rt:86:9
 add-i : tie.Need-add-i Inv-loop μ-loop
 add-i c = search needs
 
--- src/lib.rt:81:5
 loop-less : tie.Need-loop-less Inv-loop μ-loop
 loop-less c = search needs
 
--- src/lib.rt:81:5
 loop-again : tie.Need-loop-again Inv-loop μ-loop
 loop-again c = built-next (c .before .before .before .before .before .before .before .before .before .before .before .loop .inv) (c .before .before .before .before .before .before .before .before .before .before .loop-test .taken) (c .before .before .before .before .before .before .before .before .wide .ensures) (c .before .before .before .before .before .before .before .place-of .ensures) (c .before .before .before .before .name-at .ensures) (c .before .before .insert .kept .0) (c .before .before .insert .ensures .0) (c .before .before .insert .ensures .1) (c .before .before .insert .ensures .2)
 
--- src/lib.rt:71:1
 same-length : tie.Need-same-length Inv-loop μ-loop
 same-length c = omega (arith, c .before .loop .inv .size, c .before .before .before .before .before .pre .2)
 
--- src/lib.rt:71:1
 same-length-2 : tie.Need-same-length-2 Inv-loop μ-loop
 same-length-2 c = omega (arith, c .before .loop .inv .size-small, c .before .before .before .before .before .pre .3)
 
--- src/lib.rt:71:1
 returns : tie.Need-returns Inv-loop μ-loop
 returns c = built-end (c .before .loop .inv) (c .loop-test .left)
 

@@ -1,3 +1,4 @@
+-- `name_at` meets its contract.
 use Prim.Native.Nat.{_+_, _-_}
 use borrow.Author.Tests.{lt-ltb, le-ltb}
 use Rattle.merges.specs.Held.{nameAt}
@@ -5,44 +6,32 @@ use native.Mathlib.Omega.{arith}
 use borrow.Author.Needs.{needs}
 use Rattle.merges.proofs.name_at.Statement.{statement}
 use Rattle.merges.proofs.name_at.Tie as tie
-use Rattle.merges.proofs.name_at.Reads as reads
-use Rattle.merges.proofs.name_at.Lts as lts
-use Rattle.vector.proofs.wide.Reads as wide-reads
 
--- src/lib.rt:64:16
 cast-result : tie.Need-cast-result
 cast-result c = search needs
 
--- src/lib.rt:64:9
 returns : tie.Need-returns
 unfolding nameAt
 returns c = simp (lt-ltb (c .before .before .before .args .x) (c .before .before .before .args .i) (c .if1 .taken))
 
--- src/lib.rt:66:21
 add-wide : tie.Need-add-wide
 add-wide c = search needs
 
--- src/lib.rt:66:16
 mul-wide : tie.Need-mul-wide
 mul-wide c = search needs
 
--- src/lib.rt:66:16
 shared-slice-read-wide : tie.Need-shared-slice-read-wide
 shared-slice-read-wide c = search needs
 
--- src/lib.rt:66:11
 wide-requires : tie.Need-wide-requires
 wide-requires c κs = search needs
 
--- src/lib.rt:66:5
 mul-result : tie.Need-mul-result
 mul-result c = omega (arith, c .wide .ensures, c .before .shared-slice-known3 .given (c .before .before .before .before .before .args .lo + (c .before .before .before .before .before .args .x - c .before .before .before .before .before .args .i)))
 
--- src/lib.rt:66:5
 shared-slice-read-result : tie.Need-shared-slice-read-result
 shared-slice-read-result c = omega (arith, c .before .wide .ensures, c .before .before .before .before .before .before .pre .2 (c .before .before .before .if1 .left))
 
--- src/lib.rt:59:1
 returns-2 : tie.Need-returns-2
 unfolding nameAt
 returns-2 c = rw (c .before .wide .ensures, le-ltb (c .before .before .before .before .before .before .args .x) (c .before .before .before .before .before .before .args .i) (c .before .before .before .if1 .left))

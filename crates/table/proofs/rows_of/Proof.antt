@@ -1,60 +1,43 @@
+-- `rows_of` meets its contract: the children of the rows of the merges that `merges` has written.
 use mathlib.Core.Path.{_∙_}
 use Rattle.table.specs.Children.{held-of, rows-of-pairs}
-use native.Mathlib.Omega.{arith}
 use borrow.Author.Needs.{needs}
 use Rattle.table.proofs.rows_of.Statement.{statement}
 use Rattle.table.proofs.rows_of.Tie as tie
-use Rattle.table.proofs.rows_of.Reads as reads
-use Rattle.table.proofs.rows_of.Lts as lts
-use Rattle.merges.proofs.merges.Reads as merges-reads
-use Rattle.table.proofs.children.Reads as children-reads
-use Rattle.table.proofs.number_leaves.Reads as number-leaves-reads
 
--- src/lib.rt:55:35
 slice-aggregate-merges : tie.Need-slice-aggregate-merges
 slice-aggregate-merges c = search needs
 
--- src/lib.rt:55:46
 slice-aggregate-merges-2 : tie.Need-slice-aggregate-merges-2
 slice-aggregate-merges-2 c = search needs
 
--- src/lib.rt:55:9
 merges-requires : tie.Need-merges-requires
 merges-requires c κs = search needs
 
--- src/lib.rt:57:19
 slice-aggregate-number-leaves : tie.Need-slice-aggregate-number-leaves
 slice-aggregate-number-leaves c = search needs
 
--- src/lib.rt:57:5
 number-leaves-requires : tie.Need-number-leaves-requires
 number-leaves-requires c κs = search needs
 
--- src/lib.rt:58:14
 slice-aggregate-children : tie.Need-slice-aggregate-children
 slice-aggregate-children c = search needs
 
--- src/lib.rt:58:21
 slice-aggregate-children-2 : tie.Need-slice-aggregate-children-2
 slice-aggregate-children-2 c = search needs
 
--- src/lib.rt:58:39
 slice-aggregate-children-3 : tie.Need-slice-aggregate-children-3
 slice-aggregate-children-3 c = search needs
 
--- src/lib.rt:58:5
 children-requires : tie.Need-children-requires
 children-requires c κs = held-of (c .before .before .before .before .before .before .before .before .before .before .before .before .before .before .before .before .pre .0) (c .before .before .before .before .before .before .before .before .before .before .before .before .before .before .before .before .pre .1) (c .before .before .before .before .before .before .before .before .before .before .merges .ensures .0) (c .before .before .before .before .before .before .before .before .before .before .merges .ensures .1) (search needs) (search needs) (search needs) (c .before .before .before .before .before .before .before .before .before .before .before .before .before .before .before .before .pre .2) (c .before .before .before .before .before .before .before .before .before .before .before .before .before .before .before .before .pre .3) (c .before .before .before .before .before .before .number-leaves .ensures)
 
--- src/lib.rt:43:1
 same-length : tie.Need-same-length
 same-length c = search needs
 
--- src/lib.rt:43:1
 same-length-2 : tie.Need-same-length-2
 same-length-2 c = search needs
 
--- src/lib.rt:43:1
 returns : tie.Need-returns
 returns c = let e = rows-of-pairs (c .before .before .before .before .before .before .before .before .before .before .before .before .before .before .before .before .before .before .before .before .before .before .args .v .now) (c .before .before .before .before .before .before .before .before .before .before .before .before .before .before .before .before .merges .last .1 .0) (c .before .before .before .before .before .before .before .before .before .before .before .before .before .before .before .before .merges .last .1 .1 .0) (c .before .before .before .before .before .before .before .before .before .before .before .before .before .before .before .before .merges .result) (c .before .before .before .before .before .before .before .before .before .before .before .before .before .before .before .before .merges .ensures .1) in (c .before .before .before .before .before .children .ensures .0 ∙ rw e, c .before .before .before .before .before .children .ensures .1 ∙ rw e)
 

@@ -1,3 +1,4 @@
+-- `write_rows` meets its contract: the numbers of the first t rows are written.
 use lib.ListN.{length-set}
 use Prim.Native.Nat.{_-_}
 use Rattle.table.specs.Written.{Written, written-start, written-next, written-end}
@@ -5,8 +6,6 @@ use native.Mathlib.Omega.{arith}
 use borrow.Author.Needs.{needs}
 use Rattle.table.proofs.write_rows.Statement.{statement}
 use Rattle.table.proofs.write_rows.Tie as tie
-use Rattle.table.proofs.write_rows.Reads as reads
-use Rattle.table.proofs.write_rows.Lts as lts
 
 abbrev Inv-loop : tie.InvT-loop
 Inv-loop left right n out₀ last t₀ out t = Written left right n out₀ out t
@@ -14,99 +13,75 @@ Inv-loop left right n out₀ last t₀ out t = Written left right n out₀ out t
 abbrev μ-loop : tie.MeasureT-loop
 μ-loop left right n out₀ last t₀ out t = n - 1 - t
 
--- src/lib.rt:68:16
 sub-last : tie.Need-sub-last Inv-loop μ-loop
 sub-last c = search needs
 
--- src/lib.rt:70:5
 loop-holds : tie.Need-loop-holds Inv-loop μ-loop
 loop-holds c = written-start (c .pre .1) (c .pre .2) (c .pre .3) (c .pre .4)
 
--- src/lib.rt:71:22
 mul-out : tie.Need-mul-out Inv-loop μ-loop
 mul-out c = search needs
 
--- src/lib.rt:71:22
 shared-slice-read-out : tie.Need-shared-slice-read-out Inv-loop μ-loop
 shared-slice-read-out c = search needs
 
--- src/lib.rt:71:13
 mul-out-2 : tie.Need-mul-out-2 Inv-loop μ-loop
 mul-out-2 c = search needs
 
--- src/lib.rt:71:9
 mul-out-3 : tie.Need-mul-out-3 Inv-loop μ-loop
 mul-out-3 c = search needs
 
--- src/lib.rt:71:9
 slice-write-out : tie.Need-slice-write-out Inv-loop μ-loop
 slice-write-out c = search needs
 
--- src/lib.rt:72:26
 mul-out-4 : tie.Need-mul-out-4 Inv-loop μ-loop
 mul-out-4 c = search needs
 
--- src/lib.rt:72:26
 shared-slice-read-out-2 : tie.Need-shared-slice-read-out-2 Inv-loop μ-loop
 shared-slice-read-out-2 c = search needs
 
--- src/lib.rt:72:13
 mul-out-5 : tie.Need-mul-out-5 Inv-loop μ-loop
 mul-out-5 c = search needs
 
--- src/lib.rt:72:13
 add-out : tie.Need-add-out Inv-loop μ-loop
 add-out c = search needs
 
--- src/lib.rt:72:9
 mul-out-6 : tie.Need-mul-out-6 Inv-loop μ-loop
 mul-out-6 c = search needs
 
--- src/lib.rt:72:9
 slice-write-out-2 : tie.Need-slice-write-out-2 Inv-loop μ-loop
 slice-write-out-2 c = simp length-set (omega arith)
 
--- src/lib.rt:73:27
 add-out-2 : tie.Need-add-out-2 Inv-loop μ-loop
 add-out-2 c = search needs
 
--- src/lib.rt:73:26
 cast-out : tie.Need-cast-out Inv-loop μ-loop
 cast-out c = search needs
 
--- src/lib.rt:73:13
 mul-out-7 : tie.Need-mul-out-7 Inv-loop μ-loop
 mul-out-7 c = search needs
 
--- src/lib.rt:73:13
 add-out-3 : tie.Need-add-out-3 Inv-loop μ-loop
 add-out-3 c = search needs
 
--- src/lib.rt:73:9
 mul-out-8 : tie.Need-mul-out-8 Inv-loop μ-loop
 mul-out-8 c = search needs
 
--- src/lib.rt:73:9
 slice-write-out-3 : tie.Need-slice-write-out-3 Inv-loop μ-loop
 slice-write-out-3 c = simp length-set (omega arith)
 
--- src/lib.rt:74:9
 add-t : tie.Need-add-t Inv-loop μ-loop
 add-t c = search needs
 
--- src/lib.rt:70:5
 loop-less : tie.Need-loop-less Inv-loop μ-loop
 loop-less c = search needs
 
--- src/lib.rt:70:5
 loop-again : tie.Need-loop-again Inv-loop μ-loop
 loop-again c = written-next (c .before .before .before .loop .inv) (c .before .before .loop-test .taken)
 
--- src/lib.rt:62:1
 same-length : tie.Need-same-length Inv-loop μ-loop
 same-length c = c .before .loop .inv .same
 
--- src/lib.rt:62:1
 returns : tie.Need-returns Inv-loop μ-loop
 returns c = written-end (c .before .loop .inv) (c .loop-test .left)
 

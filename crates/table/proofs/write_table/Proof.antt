@@ -1,46 +1,34 @@
+-- `write_table` meets its contract: children that were kept, with their parents, are the rows.
 use mathlib.Core.Path.{_∙_}
 use lib.ListN.{length}
 use Rattle.merging.specs.Insertion.{pairs}
 use Rattle.table.specs.Children.{pairs-count}
 use Rattle.table.specs.Written.{whole-table}
-use native.Mathlib.Omega.{arith}
 use borrow.Author.Needs.{needs}
 use Rattle.table.proofs.write_table.Statement.{statement}
 use Rattle.table.proofs.write_table.Tie as tie
-use Rattle.table.proofs.write_table.Reads as reads
-use Rattle.table.proofs.write_table.Lts as lts
-use Rattle.table.proofs.rows_of.Reads as rows-of-reads
-use Rattle.table.proofs.write_rows.Reads as write-rows-reads
 
--- src/lib.rt:87:16
 slice-aggregate-rows-of : tie.Need-slice-aggregate-rows-of
 slice-aggregate-rows-of c = search needs
 
--- src/lib.rt:87:27
 slice-aggregate-rows-of-2 : tie.Need-slice-aggregate-rows-of-2
 slice-aggregate-rows-of-2 c = search needs
 
--- src/lib.rt:87:5
 rows-of-requires : tie.Need-rows-of-requires
 rows-of-requires c κs = search needs
 
--- src/lib.rt:88:16
 slice-aggregate-write-rows : tie.Need-slice-aggregate-write-rows
 slice-aggregate-write-rows c = search needs
 
--- src/lib.rt:88:23
 slice-aggregate-write-rows-2 : tie.Need-slice-aggregate-write-rows-2
 slice-aggregate-write-rows-2 c = search needs
 
--- src/lib.rt:88:5
 write-rows-requires : tie.Need-write-rows-requires
 write-rows-requires c κs = search needs
 
--- src/lib.rt:79:1
 same-length : tie.Need-same-length
 same-length c = search needs
 
--- src/lib.rt:79:1
 returns : tie.Need-returns
 returns c = c .before .before .write-rows .ensures
     ∙ rw (whole-table (length (c .before .before .before .before .before .before .before .before .before .before .before .before .before .args .v .now)) (pairs (c .before .before .before .before .before .before .before .before .before .before .before .before .before .args .v .now)) (c .before .before .before .before .before .before .before .before .rows-of .last .1 .0) (c .before .before .before .before .before .before .before .before .rows-of .last .1 .1 .0) _ _ (pairs-count (c .before .before .before .before .before .before .before .before .before .before .before .before .before .args .v .now) (c .before .before .before .before .before .before .before .before .before .before .before .before .before .pre .0)) (c .before .before .before .before .before .before .before .before .rows-of .ensures .0) (c .before .before .before .before .before .before .before .before .rows-of .ensures .1))

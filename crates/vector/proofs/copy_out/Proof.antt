@@ -1,11 +1,9 @@
+-- `copy_out` meets its contract: the first k elements are copied.
 use Prim.Native.Nat.{_-_}
 use Rattle.vector.specs.Front.{Copied, copied-start, copied-next, copied-end}
-use native.Mathlib.Omega.{arith}
 use borrow.Author.Needs.{needs}
 use Rattle.vector.proofs.copy_out.Statement.{statement}
 use Rattle.vector.proofs.copy_out.Tie as tie
-use Rattle.vector.proofs.copy_out.Reads as reads
-use Rattle.vector.proofs.copy_out.Lts as lts
 
 abbrev Inv-loop : tie.InvT-loop
 Inv-loop src n out₀ k₀ out k = Copied src out₀ out n k
@@ -13,43 +11,33 @@ Inv-loop src n out₀ k₀ out k = Copied src out₀ out n k
 abbrev μ-loop : tie.MeasureT-loop
 μ-loop src n out₀ k₀ out k = n - k
 
--- src/lib.rt:41:5
 loop-holds : tie.Need-loop-holds Inv-loop μ-loop
 loop-holds c = copied-start (c .pre .0) (c .pre .1)
 
--- src/lib.rt:42:18
 mul-out : tie.Need-mul-out Inv-loop μ-loop
 mul-out c = search needs
 
--- src/lib.rt:42:18
 shared-slice-read-out : tie.Need-shared-slice-read-out Inv-loop μ-loop
 shared-slice-read-out c = search needs
 
--- src/lib.rt:42:9
 mul-out-2 : tie.Need-mul-out-2 Inv-loop μ-loop
 mul-out-2 c = search needs
 
--- src/lib.rt:42:9
 slice-write-out : tie.Need-slice-write-out Inv-loop μ-loop
 slice-write-out c = search needs
 
--- src/lib.rt:43:9
 add-k : tie.Need-add-k Inv-loop μ-loop
 add-k c = search needs
 
--- src/lib.rt:41:5
 loop-less : tie.Need-loop-less Inv-loop μ-loop
 loop-less c = search needs
 
--- src/lib.rt:41:5
 loop-again : tie.Need-loop-again Inv-loop μ-loop
 loop-again c = copied-next (c .before .before .loop .inv) (c .before .loop-test .taken)
 
--- src/lib.rt:36:1
 same-length : tie.Need-same-length Inv-loop μ-loop
 same-length c = c .before .loop .inv .same
 
--- src/lib.rt:36:1
 returns : tie.Need-returns Inv-loop μ-loop
 returns c = copied-end (c .before .loop .inv) (c .loop-test .left)
 

@@ -1,0 +1,110 @@
+// Bit fields of any width up to 16, most significant bit first: read from bytes, and written to bytes, each byte stored once.
+ghost use mathlib.Core.Path.{_≡_};
+ghost use Prim.Native.Nat.{_+_, _*_, _≤_, _<_, _^_};
+ghost use lib.ListN.{length, getD};
+ghost use Rattle.record_laws.specs.Window.{valueAt, fourAt};
+ghost use Rattle.bits.specs.Pending.{Put, Flushed, Finished, wordStored};
+
+/// Bits on their way into bytes: whole bytes are stored before byte `at`, and the low `have` bits of `acc` are not stored yet.
+pub struct Pending {
+    pub acc: u64,
+    pub have: u32,
+    pub at: usize,
+}
+
+fn wide(b: u8) -> u32
+    ensures { λ r. ⌜ (r ≡ b) × (r < 256) ⌝ }
+{
+    b as u32
+}
+
+// The byte at q, or 0 past the end.
+fn byte_at(s: &[u8], q: usize) -> u32
+    ensures { λ r. ⌜ (r ≡ getD (now (s .entry)) q 0) × (r < 256) ⌝ }
+{
+    if q < s.len() { wide(s[q]) } else { 0 }
+}
+
+// Four bytes from q on as one number, 0 past the end.
+fn four_at(s: &[u8], q: usize) -> u32
+    requires { ⌜ q < 2 ^ 61 ⌝ }
+    ensures { λ r. ⌜ r ≡ fourAt (now (s .entry)) q ⌝ }
+{
+    if q + 3 < s.len() {
+        wide(s[q]) * 16777216 + wide(s[q + 1]) * 65536 + wide(s[q + 2]) * 256 + wide(s[q + 3])
+    } else {
+        byte_at(s, q) * 16777216
+            + byte_at(s, q + 1) * 65536
+            + byte_at(s, q + 2) * 256
+            + byte_at(s, q + 3)
+    }
+}
+
+/// The number of `width` bits from bit `at` on.
+pub fn read_field(s: &[u8], at: usize, width: u32) -> u32
+    requires { ⌜ (width ≤ 16) × (at + width ≤ 8 * length (now s)) ⌝ }
+    ensures { λ r. ⌜ r ≡ valueAt (now (s .entry)) at width ⌝ }
+{
+    let o = (at % 8) as u32;
+    let word = four_at(s, at / 8) as u64;
+    ((word >> (32 - o - width)) & ((1u64 << width) - 1)) as u32
+}
+
+// Stores the low four bytes of a word.
+fn store_word(out: &mut [u8], at: usize, word: u64)
+    requires { ⌜ at + 4 ≤ length (now out) ⌝ }
+    ensures { λ _. ⌜ now (out .exit) ≡ wordStored (now (out .entry)) at word ⌝ }
+{
+    out[at] = ((word >> 24) % 256) as u8;
+    out[at + 1] = ((word >> 16) % 256) as u8;
+    out[at + 2] = ((word >> 8) % 256) as u8;
+    out[at + 3] = (word % 256) as u8;
+}
+
+/// Appends the `width` bits of x; whole words are stored.
+pub fn put_field(out: &mut [u8], p: Pending, width: u32, x: u32) -> Pending
+    requires { ⌜ (p .have < 32) × (width ≤ 16) × (x < 2 ^ width) × (8 * p .at + p .have + width ≤ 8 * length (now out)) ⌝ }
+    ensures { λ r. ⌜ Put p width x (now (out .entry)) r (now (out .exit)) ⌝ }
+{
+    let acc = (p.acc << width) | x as u64;
+    let have = p.have + width;
+    let at = p.at;
+    if have < 32 {
+        return Pending { acc, have, at };
+    }
+    let rest = have - 32;
+    store_word(out, at, acc >> rest);
+    Pending {
+        acc,
+        have: rest,
+        at: at + 4,
+    }
+}
+
+// Stores the whole bytes that are left.
+fn flush(out: &mut [u8], p: Pending) -> Pending
+    requires { ⌜ (p .have < 32) × (8 * p .at + p .have ≤ 8 * length (now out)) ⌝ }
+    ensures { λ r. ⌜ Flushed p (now (out .entry)) r (now (out .exit)) ⌝ }
+{
+    let acc = p.acc;
+    let mut have = p.have;
+    let mut at = p.at;
+    while have >= 8 {
+        have -= 8;
+        out[at] = ((acc >> have) % 256) as u8;
+        at += 1;
+    }
+    Pending { acc, have, at }
+}
+
+/// Stores the bits that are left, and zero bits to the end of their byte.
+pub fn finish(out: &mut [u8], p: Pending)
+    requires { ⌜ (p .have < 32) × (8 * p .at + p .have ≤ 8 * length (now out)) ⌝ }
+    ensures { λ _. ⌜ Finished p (now (out .entry)) (now (out .exit)) ⌝ }
+{
+    let q = flush(out, p);
+    if 0 < q.have {
+        let at = q.at;
+        out[at] = ((q.acc << (8 - q.have)) % 256) as u8;
+    }
+}

@@ -1,0 +1,5 @@
+pub mod Climb
+pub mod Rank
+pub mod Entries
+pub mod Vector
+pub mod Built

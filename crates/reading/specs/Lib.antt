@@ -1,0 +1,3 @@
+pub mod RowAt
+pub mod Verdict
+pub mod Reading

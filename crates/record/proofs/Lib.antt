@@ -1,0 +1,4 @@
+mod Table
+mod Reading
+mod Putting
+mod Packing

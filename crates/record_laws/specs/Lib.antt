@@ -1,0 +1,6 @@
+pub mod Number
+pub mod Bytes
+pub mod Window
+pub mod Width
+pub mod Fields
+pub mod Inverse

@@ -1,0 +1,1 @@
+// What follows from the rules of the packed record. No code.

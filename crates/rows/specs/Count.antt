@@ -1,0 +1,117 @@
+-- How many numbers below n pass a test, and how many leaves a tree has.
+-- Main definitions: bit, count. Main results: last-or-before, count-without, count-or, count-only, size-count, size-below.
+use mathlib.Core.Path.{_≡_, refl, sym, ap, ap₂, _∙_}
+use mathlib.Core.Logic.{_≢_, _⊎_, inl, inr}
+use mathlib.Core.Bool.{Bool, true, false, _||_, false≢true, true≢false}
+use Prim.Native.Nat.{ℕ, zero, suc, _+_, _≤_, _<_}
+use native.Mathlib.Omega.{arith}
+use lib.Dec.{eqb, ltb}
+use borrow.Author.Tests.{eqb-true, eqb-false, eq-eqb, ne-eqb, lt-ltb, ltb-true}
+use Rattle.rules.specs.Tree.{Tree, leaf, node, has, size, Distinct, LeavesBelow}
+use Rattle.rows.specs.Larger.{has-left, has-right}
+
+-- below m + 1 is m or below m
+pub last-or-before : (m k : ℕ) → k < m + 1 → (k ≡ m) ⊎ (k < m)
+last-or-before m k h = go (eqb k m) refl
+  where
+    go : (b : Bool) → eqb k m ≡ b → (k ≡ m) ⊎ (k < m)
+    go true e = inl (eqb-true k m e)
+    go false e = inr (let z = eqb-false k m e in omega arith)
+
+unfoldable pub bit : Bool → ℕ
+bit true = 1
+bit false = 0
+
+-- how many numbers below n pass the test
+unfoldable pub count : (ℕ → Bool) → ℕ → ℕ
+count f zero = 0
+count f (suc n) = bit (f n) + count f n
+
+pub count-cong : (f g : ℕ → Bool) (n : ℕ) → ((x : ℕ) → x < n → f x ≡ g x) → count f n ≡ count g n
+unfolding count
+count-cong f g zero h = refl
+count-cong f g (suc n) h = ap₂ (λ (a b : ℕ). a + b) (ap bit (h n (omega arith))) (count-cong f g n (λ x l. h x (omega arith)))
+
+pub count-none : (f : ℕ → Bool) (n : ℕ) → ((x : ℕ) → x < n → f x ≡ false) → count f n ≡ 0
+unfolding count bit
+count-none f zero h = refl
+count-none f (suc n) h = rw (h n (omega arith)) (omega (arith, count-none f n (λ x l. h x (omega arith))))
+
+pub count-all : (f : ℕ → Bool) (n : ℕ) → ((x : ℕ) → x < n → f x ≡ true) → count f n ≡ n
+unfolding count bit
+count-all f zero h = refl
+count-all f (suc n) h = rw (h n (omega arith)) (omega (arith, count-all f n (λ x l. h x (omega arith))))
+
+-- one fewer
+pub count-without : (f g : ℕ → Bool) (a n : ℕ) → a < n → f a ≡ true → g a ≡ false → ((x : ℕ) → x ≢ a → g x ≡ f x) → count g n + 1 ≡ count f n
+unfolding count bit
+count-without f g a zero l e d h = absurd (omega arith)
+count-without f g a (suc n) l e d h = go (eqb a n) refl (λ k. count-without f g a n k e d h)
+  where
+    go : (b : Bool) → eqb a n ≡ b → (a < n → count g n + 1 ≡ count f n) → bit (g n) + count g n + 1 ≡ bit (f n) + count f n
+    go true q ih =
+        let z = eqb-true a n q in
+        let c = count-cong g f n (λ x k. h x (omega arith)) in
+        rw (← z, e, d) (rw z (omega arith))
+    go false q ih = let z = eqb-false a n q in rw (h n (λ k. z (sym k))) (omega (arith, ih (omega arith)))
+
+bit-or : (a b : Bool) → (a ≡ true → b ≡ true → ⊥) → bit (a || b) ≡ bit a + bit b
+unfolding bit
+bit-or true true h = absurd (h refl refl)
+bit-or true false h = refl
+bit-or false true h = refl
+bit-or false false h = refl
+
+-- two tests of which no number passes both
+pub count-or : (f g : ℕ → Bool) (n : ℕ) → ((x : ℕ) → f x ≡ true → g x ≡ true → ⊥) → count (λ x. f x || g x) n ≡ count f n + count g n
+unfolding count
+count-or f g zero h = refl
+count-or f g (suc n) h = omega (arith, bit-or (f n) (g n) (h n), count-or f g n h)
+
+pub count-pos : (f : ℕ → Bool) (a n : ℕ) → a < n → f a ≡ true → 1 ≤ count f n
+unfolding count bit
+count-pos f a zero l e = absurd (omega arith)
+count-pos f a (suc n) l e = go (eqb a n) refl (λ k. count-pos f a n k e)
+  where
+    go : (b : Bool) → eqb a n ≡ b → (a < n → 1 ≤ count f n) → 1 ≤ bit (f n) + count f n
+    go true q ih = rw (← eqb-true a n q, e) (omega arith)
+    go false q ih = let z = eqb-false a n q in omega (arith, ih (omega arith))
+
+count-two : (f : ℕ → Bool) (a b n : ℕ) → a < b → b < n → f a ≡ true → f b ≡ true → 2 ≤ count f n
+unfolding count bit
+count-two f a b zero l k e d = absurd (omega arith)
+count-two f a b (suc n) l k e d = go (eqb b n) refl (λ h. count-two f a b n l h e d)
+  where
+    go : (c : Bool) → eqb b n ≡ c → (b < n → 2 ≤ count f n) → 2 ≤ bit (f n) + count f n
+    go true q ih =
+        let z = eqb-true b n q in
+        let p = count-pos f a n (omega arith) e in
+        let y : f n ≡ true = rw z at d in
+        rw y (omega arith)
+    go false q ih = let z = eqb-false b n q in omega (arith, ih (omega arith))
+
+-- where just one passes, two that pass are the same
+pub count-only : (f : ℕ → Bool) (a b n : ℕ) → count f n ≡ 1 → a < n → b < n → f a ≡ true → f b ≡ true → a ≡ b
+count-only f a b n h k l e d = go (ltb a b) (ltb b a) refl refl
+  where
+    go : (x y : Bool) → ltb a b ≡ x → ltb b a ≡ y → a ≡ b
+    go true y p q = absurd (omega (arith, count-two f a b n (ltb-true a b p) l e d))
+    go false true p q = absurd (omega (arith, count-two f b a n (ltb-true b a q) k d e))
+    go false false p q = omega (arith, borrow.Author.Tests.ltb-false a b p, borrow.Author.Tests.ltb-false b a q)
+
+count-one : (y n : ℕ) → y < n → count (eqb y) n ≡ 1
+count-one y n l =
+    omega (arith, count-without (eqb y) (λ x. false) y n l (eq-eqb y y refl) refl (λ x k. sym (ne-eqb y x (λ e. k (sym e)))), count-none (λ x. false) n (λ x h. refl))
+
+-- a tree has as many leaves as numbers stand in it
+pub size-count : (t : Tree) (n : ℕ) → Distinct t → ((x : ℕ) → has t x ≡ true → x < n) → count (has t) n ≡ size t
+unfolding Distinct has size
+size-count (leaf y) n D h = count-one y n (h y (eq-eqb y y refl))
+size-count (node l r) n D h =
+    count-or (has l) (has r) n (D .0)
+    ∙ ap₂ (λ (a b : ℕ). a + b) (size-count l n (D .1) (λ x e. h x (has-left l r x e))) (size-count r n (D .2) (λ x e. h x (has-right l r x e)))
+
+pub size-below : (n : ℕ) (t : Tree) → LeavesBelow n t → size t ≡ n
+size-below n t L =
+    sym (size-count t n (L .once) (λ x e. ltb-true x n (sym (L .all x) ∙ e)))
+    ∙ count-all (has t) n (λ x l. L .all x ∙ lt-ltb x n l)

@@ -1,0 +1,1 @@
+// Tables that are read: no code here; specs/ has the definitions and their laws.

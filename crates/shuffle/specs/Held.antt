@@ -1,0 +1,102 @@
+-- The rows of a table in two lists: the first and the second child of each row; row t has the parent n + t.
+-- Main definitions: heldRows, Shape, Tabled. Main results: some-leaf, length-held, getD-held, held-shape, held-is, held-renamed.
+use mathlib.Core.Path.{_≡_, refl, sym, ap, _∙_}
+use mathlib.Core.List.{List, [], _∷_}
+use mathlib.Core.Option.{none}
+use Prim.Native.Nat.{ℕ, zero, suc, _+_, _-_, _≤_, _<_}
+use native.Mathlib.Omega.{arith}
+use lib.ListN.{length, getD}
+use lib.Seq.{ext-getD}
+use Rattle.rules.specs.Tree.{Tree, leaf, node, Clusters, LeavesBelow}
+use Rattle.rules.specs.Table.{Row, tableFault, nodesOf, tableTree}
+use Rattle.shuffle_laws.specs.Count.{size-below}
+use Rattle.shuffle_laws.specs.Taken.{size-inner}
+use Rattle.shuffle_laws.specs.Rows.{Turned, leaf-of, node-of, stands-row, accepted-stands, renamedChild, renamedRow, renamedRows, length-renamed, getD-renamed, row-renamed}
+
+-- k rows from row t on
+unfoldable pub heldFrom : ℕ → List ℕ → List ℕ → ℕ → ℕ → List Row
+heldFrom n left right t zero = []
+heldFrom n left right t (suc k) = (getD left t 0, getD right t 0, n + t) ∷ heldFrom n left right (t + 1) k
+
+-- the n - 1 rows of a table with n leaves
+unfoldable pub heldRows : ℕ → List ℕ → List ℕ → List Row
+unfolding heldFrom
+heldRows n left right = heldFrom n left right 0 (n - 1)
+
+-- the nodes of the rows by their numbers, and the tree of the rows
+abbrev pub heldNodes : ℕ → List ℕ → List ℕ → Clusters
+heldNodes n left right = nodesOf (heldRows n left right) leaf
+
+abbrev pub heldTree : ℕ → List ℕ → List ℕ → Tree
+heldTree n left right = tableTree n (heldRows n left right)
+
+-- The rows are accepted, their tree has the leaves 0 to n-1, and at each node the first child has the smaller least leaf.
+pub record Tabled (n : ℕ) (left right : List ℕ) : Type 0 where
+  pub accepted : tableFault n (heldRows n left right) ≡ none
+  pub leaves : LeavesBelow n (heldTree n left right)
+  pub turned : Turned (heldTree n left right)
+
+-- there is a leaf
+pub some-leaf : {n : ℕ} {left right : List ℕ} → Tabled n left right → 1 ≤ n
+some-leaf {n} {left} {right} B = omega (arith, size-below (B .leaves), size-inner (heldTree n left right))
+
+length-from : (n : ℕ) (left right : List ℕ) (t k : ℕ) → length (heldFrom n left right t k) ≡ k
+unfolding heldFrom
+length-from n left right t zero = refl
+length-from n left right t (suc k) = ap suc (length-from n left right (t + 1) k)
+
+getD-from : (n : ℕ) (left right : List ℕ) (t k j : ℕ) (d : Row) → j < k
+    → getD (heldFrom n left right t k) j d ≡ (getD left (t + j) 0, getD right (t + j) 0, n + (t + j))
+unfolding heldFrom
+getD-from n left right t zero j d h = absurd (omega arith)
+getD-from n left right t (suc k) zero d h = let z : t + 0 ≡ t = omega arith in rw z
+getD-from n left right t (suc k) (suc j) d h =
+    let z : t + suc j ≡ t + 1 + j = omega arith in rw z (getD-from n left right (t + 1) k j d (omega arith))
+
+pub length-held : (n : ℕ) (left right : List ℕ) → length (heldRows n left right) ≡ n - 1
+unfolding heldRows
+length-held n left right = length-from n left right 0 (n - 1)
+
+pub getD-held : (n : ℕ) (left right : List ℕ) (j : ℕ) (d : Row) → j < n - 1
+    → getD (heldRows n left right) j d ≡ (getD left j 0, getD right j 0, n + j)
+unfolding heldRows
+getD-held n left right j d h = let z : 0 + j ≡ j = omega arith in rw z at (getD-from n left right 0 (n - 1) j d h)
+
+-- What the nodes of accepted rows are: leaves below n, and from n on the pair of a row's children, which are below it.
+pub record Shape (n : ℕ) (T : Clusters) (left right : List ℕ) : Type 0 where
+  pub leaves : (x : ℕ) → x < n → T x ≡ leaf x
+  pub pairs : (j : ℕ) → j < n - 1 → T (n + j) ≡ node (T (getD left j 0)) (T (getD right j 0))
+  pub first : (j : ℕ) → j < n - 1 → getD left j 0 < n + j
+  pub second : (j : ℕ) → j < n - 1 → getD right j 0 < n + j
+
+pub held-shape : (n : ℕ) (left right : List ℕ) → tableFault n (heldRows n left right) ≡ none → Shape n (heldNodes n left right) left right
+held-shape n left right e = record {
+  leaves = leaf-of n (heldRows n left right) e;
+  pairs = λ j h. rw (getD-held n left right j (0, 0, 0) h) at (node-of n (heldRows n left right) e j (0, 0, 0) (omega (arith, length-held n left right)));
+  first = λ j h. omega (arith, row j h .0);
+  second = λ j h. omega (arith, row j h .1);
+}
+  where
+    row : (j : ℕ) → j < n - 1 → (getD left j 0 < n + 0 + j) × (getD right j 0 < n + 0 + j)
+    row j h =
+        rw (getD-held n left right j (0, 0, 0) h) at
+        (stands-row n 0 (heldRows n left right) j (0, 0, 0) (accepted-stands n (heldRows n left right) e) (omega (arith, length-held n left right)))
+
+-- rows that are held row by row are the rows held
+pub held-is : (n : ℕ) (left right : List ℕ) (rs : List Row) → length rs ≡ n - 1
+    → ((t : ℕ) → t < n - 1 → getD rs t (0, 0, 0) ≡ (getD left t 0, getD right t 0, n + t)) → heldRows n left right ≡ rs
+held-is n left right rs e h =
+    ext-getD (0, 0, 0) (heldRows n left right) rs (length-held n left right ∙ sym e)
+    (λ t l. let k : t < n - 1 = omega (arith, length-held n left right) in getD-held n left right t (0, 0, 0) k ∙ sym (h t k))
+
+-- children renamed one by one are the rows renamed
+pub held-renamed : (n : ℕ) (p left right left′ right′ : List ℕ)
+    → ((t : ℕ) → t < n - 1 → getD left′ t 0 ≡ renamedChild n p (getD left t 0))
+    → ((t : ℕ) → t < n - 1 → getD right′ t 0 ≡ renamedChild n p (getD right t 0))
+    → heldRows n left′ right′ ≡ renamedRows n p (heldRows n left right)
+held-renamed n p left right left′ right′ f g =
+    held-is n left′ right′ (renamedRows n p (heldRows n left right)) (length-renamed n p (heldRows n left right) ∙ length-held n left right)
+    (λ t h. rw (f t h, g t h)
+    (getD-renamed n p (heldRows n left right) t (0, 0, 0) (omega (arith, length-held n left right))
+    ∙ ap (renamedRow n p) (getD-held n left right t (0, 0, 0) h)
+    ∙ row-renamed n p (getD left t 0) (getD right t 0) (n + t)))

@@ -1,0 +1,4 @@
+pub mod Held
+pub mod Waits
+pub mod Marks
+pub mod Renames

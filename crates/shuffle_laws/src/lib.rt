@@ -1,0 +1,1 @@
+// Laws only: see specs/.

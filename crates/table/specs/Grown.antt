@@ -1,0 +1,85 @@
+-- The tree of a table that is written is the tree that its merges build.
+-- Main results: rows-grow, table-tree, pairs-tree.
+use mathlib.Core.Path.{_≡_, refl, ap₂}
+use mathlib.Core.Bool.{Bool, true, false, cond}
+use mathlib.Core.List.{List, [], _∷_}
+use Prim.Native.Nat.{ℕ, suc, _+_, _-_, _<_}
+use native.Mathlib.Omega.{arith}
+use lib.Dec.{eqb}
+use lib.ListN.{length}
+use borrow.Author.Tests.{eqb-true, eq-eqb, ne-eqb}
+use Rattle.rules.specs.Vector.{entry, Valid}
+use Rattle.rules.specs.Building.{Merge}
+use Rattle.rules.specs.Tree.{leaf, node, Clusters, joined, grown}
+use Rattle.rules.specs.Table.{rowsFrom, nodesOf, tableTree}
+use Rattle.merging.specs.Insertion.{pairsOf, pairs}
+use Rattle.merging.specs.Greedy.{Under, under-pairs}
+use Rattle.merging.specs.Named.{named, Good, good}
+use Rattle.merges.specs.Held.{pairs-long}
+use Rattle.merges.specs.Built.{valid-bounded}
+use Rattle.table.specs.Rows.{rows-length}
+use Rattle.table.specs.Accepted.{renumber, smaller-named, larger-named, still-named, named-below}
+
+-- Each name that is left has a node below p, and the node's tree is the cluster's; where no merge is left, 0 has the last node.
+pub record Same (P : List Merge) (p : ℕ) (number : ℕ → ℕ) (C D : Clusters) : Type 0 where
+  pub below : (x : ℕ) → named P x ≡ true → number x < p
+  pub tree : (x : ℕ) → named P x ≡ true → C (number x) ≡ D x
+  pub last : length P ≡ 0 → number 0 ≡ p - 1
+
+-- the last merge is one with 0
+last-merge : (m : Merge) (P : List Merge) → Good (m ∷ P) → length P ≡ 0 → 0 ≡ m .0
+unfolding Good named
+last-merge m [] G e = eqb-true 0 (m .0) (G .0)
+last-merge m (q ∷ P) G e = absurd (omega arith)
+
+-- the nodes after a row
+abbrev above : Clusters → ℕ → ℕ → ℕ → Clusters
+above C p l r = λ k. cond (eqb k p) (node (C l) (C r)) (C k)
+
+same-next : (m : Merge) (P : List Merge) (p : ℕ) (number : ℕ → ℕ) (C D : Clusters) → Good (m ∷ P) → Same (m ∷ P) p number C D → Same P (p + 1) (renumber number (m .0) p) (above C p (number (m .0)) (number (m .1))) (joined m D)
+unfolding joined
+same-next m P p number C D G S = record {
+  below = λ x h. below′ x h (eqb x (m .0)) refl;
+  tree = λ x h. tree′ x h (eqb x (m .0)) refl;
+  last = λ e. let z : p + 1 - 1 ≡ p = omega arith in rw (eq-eqb 0 (m .0) (last-merge m P G e), z);
+}
+  where
+    old : (x : ℕ) → named P x ≡ true → number x < p
+    old x h = S .below x (still-named m P x h)
+
+    below′ : (x : ℕ) → named P x ≡ true → (b : Bool) → eqb x (m .0) ≡ b → cond b p (number x) < p + 1
+    below′ x h true q = omega arith
+    below′ x h false q = omega (arith, old x h)
+
+    tree′ : (x : ℕ) → named P x ≡ true → (b : Bool) → eqb x (m .0) ≡ b → above C p (number (m .0)) (number (m .1)) (cond b p (number x)) ≡ cond b (node (D (m .0)) (D (m .1))) (D x)
+    tree′ x h true q = rw (eq-eqb p p refl) (ap₂ node (S .tree (m .0) (smaller-named m P G)) (S .tree (m .1) (larger-named m P)))
+    tree′ x h false q = rw (ne-eqb (number x) p (λ e. omega (arith, old x h))) (S .tree x (still-named m P x h))
+
+-- the last row's node is the one cluster that is left
+pub rows-grow : (P : List Merge) (p : ℕ) (number : ℕ → ℕ) (C D : Clusters) → Good P → Same P p number C D → nodesOf (rowsFrom p number P) C (p + length P - 1) ≡ grown P D 0
+unfolding nodesOf rowsFrom grown Good named
+rows-grow [] p number C D G S =
+    let z : p + 0 - 1 ≡ p - 1 = omega arith in
+    rw (z, ← S .last refl) (S .tree 0 refl)
+rows-grow (m ∷ P) p number C D G S =
+    let z : p + suc (length P) - 1 ≡ p + 1 + length P - 1 = omega arith in
+    rw z
+    (rows-grow P (p + 1) (renumber number (m .0) p) (above C p (number (m .0)) (number (m .1))) (joined m D) (G .2) (same-next m P p number C D G S))
+
+pub table-tree : (n : ℕ) (P : List Merge) → suc (length P) ≡ n → Under n P → Good P → tableTree n (rowsFrom n (λ c. c) P) ≡ grown P leaf 0
+unfolding tableTree
+table-tree n P e u G =
+    rw (rows-length n (λ c. c) P)
+    (rows-grow P n (λ c. c) leaf leaf G (record {
+      below = named-below n P (omega arith) u;
+      tree = λ x h. refl;
+      last = λ h. omega arith;
+    }))
+
+-- the tree of a vector's table
+pub pairs-tree : (v : List ℕ) → Valid v → tableTree (length v) (rowsFrom (length v) (λ c. c) (pairs v)) ≡ grown (pairs v) leaf 0
+unfolding pairs
+pairs-tree v ok =
+    let some = ok .some-leaf in
+    table-tree (length v) (pairsOf (entry v) (length v)) (omega (arith, pairs-long (entry v) (length v) some)) (under-pairs (entry v) (length v))
+    (good (entry v) (length v) (valid-bounded v (length v) ok (omega arith)))

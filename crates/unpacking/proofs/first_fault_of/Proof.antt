@@ -1,0 +1,23 @@
+use lib.ListN.{length-take}
+use native.Mathlib.Omega.{arith}
+use borrow.Author.Needs.{needs}
+use Rattle.unpacking.proofs.first_fault_of.Statement.{statement}
+use Rattle.unpacking.proofs.first_fault_of.Tie as tie
+use Rattle.unpacking.proofs.first_fault_of.Reads as reads
+use Rattle.unpacking.proofs.first_fault_of.Lts as lts
+use Rattle.vector.proofs.first_fault.Reads as first-fault-reads
+
+-- src/lib.rt:22:25
+slice-aggregate-first-fault : tie.Need-slice-aggregate-first-fault
+slice-aggregate-first-fault c = simp length-take (omega arith)
+
+-- src/lib.rt:22:5
+first-fault-requires : tie.Need-first-fault-requires
+first-fault-requires c κs = simp length-take (omega arith)
+
+-- src/lib.rt:18:1
+returns : tie.Need-returns
+returns c = search needs
+
+pub first-fault-of-spec : {M : Type 1} → statement M
+first-fault-of-spec = tie.close (tie.spec slice-aggregate-first-fault first-fault-requires returns)
