@@ -57,10 +57,21 @@ fn listed(input: &[u8]) -> Vec<u8> {
     output
 }
 
-/// A file of the folder of expected results.
+/// A file of the repository, by its path from the root.
 pub struct File {
-    pub name: String,
+    pub path: String,
     pub contents: Vec<u8>,
+}
+
+/// Where a name's input and output stand. What the gate runs a program on stands
+/// beside that program; what else the listing is tried on stands in `expected/`.
+fn paths(name: &str) -> [String; 2] {
+    let program = match name {
+        "samples" | "every" | "calls" => name,
+        "listing-sample" => "listing",
+        _ => return ["in", "out"].map(|end| format!("second/expected/{name}.{end}")),
+    };
+    ["stdin", "stdout"].map(|file| format!("crates/{program}/{file}"))
 }
 
 /// The files of every name; an empty input has none.
@@ -69,34 +80,38 @@ pub fn all() -> Vec<File> {
     for name in NAMES {
         let input = input(name).expect("every name has an input");
         let output = output(name, &input);
+        let [input_path, output_path] = paths(name);
         if !input.is_empty() {
-            files.push(File { name: format!("{name}.in"), contents: input });
+            files.push(File { path: input_path, contents: input });
         }
-        files.push(File { name: format!("{name}.out"), contents: output });
+        files.push(File { path: output_path, contents: output });
     }
     files
 }
 
-pub fn write(folder: &Path, files: &[File]) -> io::Result<()> {
-    fs::create_dir_all(folder)?;
+pub fn write(root: &Path, files: &[File]) -> io::Result<()> {
     for file in files {
-        fs::write(folder.join(&file.name), &file.contents)?;
-        println!("written {} {}", file.name, file.contents.len());
+        let path = root.join(&file.path);
+        if let Some(folder) = path.parent() {
+            fs::create_dir_all(folder)?;
+        }
+        fs::write(path, &file.contents)?;
+        println!("written {} {}", file.path, file.contents.len());
     }
     Ok(())
 }
 
 /// Prints a line for each file; false where one differs or is missing.
-pub fn verify(folder: &Path, files: &[File]) -> bool {
+pub fn verify(root: &Path, files: &[File]) -> bool {
     let mut all_same = true;
     for file in files {
-        let word = match fs::read(folder.join(&file.name)) {
+        let word = match fs::read(root.join(&file.path)) {
             Ok(found) if found == file.contents => "same",
             Ok(_) => "differs",
             Err(_) => "missing",
         };
         all_same &= word == "same";
-        println!("{word} {}", file.name);
+        println!("{word} {}", file.path);
     }
     all_same
 }

@@ -5,7 +5,7 @@ use std::io::{self, Write};
 use std::path::Path;
 use std::process::ExitCode;
 
-const USAGE: &str = "second list | names | input NAME | expected NAME | write DIR | verify DIR";
+const USAGE: &str = "second list | names | input NAME | expected NAME | write ROOT | verify ROOT";
 
 fn main() -> ExitCode {
     let words: Vec<String> = std::env::args().skip(1).collect();
@@ -15,8 +15,8 @@ fn main() -> ExitCode {
         ["names"] => put(format!("{}\n", files::NAMES.join("\n")).as_bytes()),
         ["input", name] => put_named(files::input(name), name),
         ["expected", name] => put_named(files::expected(name), name),
-        ["write", folder] => files::write(Path::new(folder), &files::all()),
-        ["verify", folder] if files::verify(Path::new(folder), &files::all()) => Ok(()),
+        ["write", root] => files::write(Path::new(root), &files::all()),
+        ["verify", root] if files::verify(Path::new(root), &files::all()) => Ok(()),
         ["verify", _] => return ExitCode::from(1),
         _ => Err(io::Error::new(io::ErrorKind::InvalidInput, USAGE)),
     };

@@ -1,4 +1,4 @@
-//! The files of `expected/`, and the comparison of `second verify`.
+//! The files of expected results, and the comparison of `second verify`.
 
 use second::files::{all, expected, input, verify, write, File};
 use std::fs;
@@ -6,28 +6,38 @@ use std::io::BufRead;
 use std::path::Path;
 
 #[test]
-fn the_folder_holds_what_would_be_written_now() {
-    let folder = Path::new(env!("CARGO_MANIFEST_DIR")).join("expected");
+fn the_repository_holds_what_would_be_written_now() {
+    let root = Path::new(env!("CARGO_MANIFEST_DIR")).join("..");
     let files = all();
-    assert!(verify(&folder, &files));
+    assert!(verify(&root, &files));
     assert!(files.iter().all(|file| !file.contents.is_empty()));
-    let found = fs::read_dir(&folder).unwrap().count();
-    assert_eq!(found, files.len(), "no other file stands in the folder");
+    let folder = "second/expected";
+    let expected = files.iter().filter(|file| file.path.starts_with(folder)).count();
+    let found = fs::read_dir(root.join(folder)).unwrap().count();
+    assert_eq!(found, expected, "no other file stands in the folder");
+}
+
+#[test]
+fn what_the_gate_runs_stands_beside_its_program() {
+    let paths: Vec<String> = all().into_iter().map(|file| file.path).collect();
+    for path in ["crates/samples/stdout", "crates/calls/stdin", "crates/listing/stdin"] {
+        assert!(paths.iter().any(|found| found == path), "{path}");
+    }
 }
 
 #[test]
 fn verify_finds_a_difference_and_a_missing_file() {
-    let folder = Path::new(env!("CARGO_TARGET_TMPDIR")).join("verify");
-    let file = |name: &str| File { name: name.to_string(), contents: b"some bytes".to_vec() };
-    let files = [file("a.in"), file("a.out")];
-    write(&folder, &files).unwrap();
-    assert!(verify(&folder, &files));
-    fs::write(folder.join("a.in"), b"some bytez").unwrap();
-    assert!(!verify(&folder, &files));
-    write(&folder, &files).unwrap();
-    assert!(verify(&folder, &files));
-    fs::remove_file(folder.join("a.out")).unwrap();
-    assert!(!verify(&folder, &files));
+    let root = Path::new(env!("CARGO_TARGET_TMPDIR")).join("verify");
+    let file = |path: &str| File { path: path.to_string(), contents: b"some bytes".to_vec() };
+    let files = [file("one/a.in"), file("other/a.out")];
+    write(&root, &files).unwrap();
+    assert!(verify(&root, &files));
+    fs::write(root.join("one/a.in"), b"some bytez").unwrap();
+    assert!(!verify(&root, &files));
+    write(&root, &files).unwrap();
+    assert!(verify(&root, &files));
+    fs::remove_file(root.join("other/a.out")).unwrap();
+    assert!(!verify(&root, &files));
 }
 
 #[test]

@@ -40,8 +40,8 @@ fn four_at(s: &[u8], q: usize) -> u32
     }
 }
 
-/// The number of `width` bits from bit `at` on.
-pub fn read_field(s: &[u8], at: usize, width: u32) -> u32
+// The number of `width` bits from bit `at` on.
+fn read_field(s: &[u8], at: usize, width: u32) -> u32
     requires { ⌜ (width ≤ 16) × (at + width ≤ 8 * length (now s)) ⌝ }
     ensures { λ r. ⌜ r ≡ valueAt (now (s .entry)) at width ⌝ }
 {
@@ -107,4 +107,33 @@ pub fn finish(out: &mut [u8], p: Pending)
         let at = q.at;
         out[at] = ((q.acc << (8 - q.have)) % 256) as u8;
     }
+}
+
+/// A reading position over the bytes that it was lent: the next bit is bit `at`.
+pub struct Reader<'a> {
+    pub bytes: &'a [u8],
+    pub at: usize,
+}
+
+/// A reading position at bit `at`.
+pub fn reading_at<'a>(bytes: &'a [u8], at: usize) -> Reader<'a>
+    ensures { λ r. ⌜ (r .bytes ≡ bytes .entry) × (r .at ≡ at) ⌝ }
+{
+    Reader { bytes, at }
+}
+
+/// The number of `width` bits from a reading position on.
+pub fn next_field<'a>(r: Reader<'a>, width: u32) -> u32
+    requires { ⌜ (width ≤ 16) × (r .at + width ≤ 8 * length (now (r .bytes))) ⌝ }
+    ensures { λ x. ⌜ x ≡ valueAt (now (r .entry .bytes)) (r .entry .at) width ⌝ }
+{
+    read_field(r.bytes, r.at, width)
+}
+
+/// The number of `width` bits from bit `at` on, through a reading position. Its contract says nothing of one, so who calls it needs no walk by hand.
+pub fn field_at(s: &[u8], at: usize, width: u32) -> u32
+    requires { ⌜ (width ≤ 16) × (at + width ≤ 8 * length (now s)) ⌝ }
+    ensures { λ x. ⌜ x ≡ valueAt (now (s .entry)) at width ⌝ }
+{
+    next_field(reading_at(s, at), width)
 }

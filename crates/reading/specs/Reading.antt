@@ -9,7 +9,7 @@ use Prim.Native.Nat.{ℕ, zero, suc, _+_, _-_, _*_, _≤_, _<_}
 use native.Mathlib.Numerals.{add-one}
 use native.Mathlib.Omega.{arith}
 use lib.Dec.{eqb, ltb}
-use lib.ListN.{length, getD, set, take, drop, length-take, length-set, take-append-drop}
+use lib.ListN.{length, getD, set, take, drop, length-take, length-set, take-append-drop, replicate}
 use lib.Seq.{getD-set-same, getD-set-other, take-all}
 use borrow.Author.Tests.{eqb-true, eqb-false, eq-eqb, ne-eqb}
 use Rattle.rules.specs.Table.{Row, rowsOf, rowFault, tableFault, tableTree}
@@ -31,6 +31,15 @@ pub record Reads (n : ℕ) (xs : List ℕ) (t : ℕ) (named names larger small u
   pub clean : rowFault n 0 (λ c. false) (take t (rowsOf xs)) ≡ none
   pub built : Built n (take t (rowsOf xs)) names larger small up waits
 
+-- the lists keep their lengths
+pub record Lengths (named₀ names₀ larger₀ small₀ up₀ waits₀ named names larger small up waits : List ℕ) : Type 0 where
+  pub of-named : length named ≡ length named₀
+  pub of-names : length names ≡ length names₀
+  pub of-larger : length larger ≡ length larger₀
+  pub of-small : length small ≡ length small₀
+  pub of-up : length up ≡ length up₀
+  pub of-waits : length waits ≡ length waits₀
+
 -- one flag more
 flag-set : (named : List ℕ) (l c : ℕ) → l < length named → flag (set named l 1) c ≡ flag named c || eqb c l
 unfolding flag
@@ -42,6 +51,12 @@ flag-set named l c h = go (eqb c l) refl
     go : (b : Bool) → eqb c l ≡ b → not (eqb (getD (set named l 1) c 0) 0) ≡ not (eqb (getD named c 0) 0) || b
     go true q = rw (eqb-true c l q, getD-set-same named l 1 0 h) (sym (after-or (not (eqb (getD named l 0) 0))))
     go false q = rw (getD-set-other named l c 1 0 (eqb-false c l q)) (sym (or-false (not (eqb (getD named c 0) 0))))
+
+-- a list of zeros
+pub zeros : (k c : ℕ) → _≡_ {A = ℕ} (getD (replicate k 0) c 0) 0
+zeros zero c = refl
+zeros (suc k) zero = refl
+zeros (suc k) (suc c) = zeros k c
 
 -- no row is read yet
 pub reads-start : {n : ℕ} {xs named names larger small up waits : List ℕ} → 1 ≤ n → n ≤ 1024 → length xs ≡ 3 * (n - 1) → length named ≡ 2048
@@ -165,3 +180,24 @@ reads-end {n} {xs} {t} {names = a} {larger = b} {small = c} {up = d} {waits = e�
       count = k;
       built = subst (λ (rs : List Row). Built n rs a b c d e′) e (R .built);
     }
+
+-- the flags of an accepted row's children are there
+pub reads-inside : {n : ℕ} {xs : List ℕ} {t : ℕ} (l r p : ℕ) {named names larger small up waits : List ℕ} → Reads n xs t named names larger small up waits
+    → t < n - 1 → verdict (flag named) (n + t) (l, r, p) ≡ 0 → (l < length named) × (r < length named)
+reads-inside {n} {xs} {t} l r p {named} R h v =
+    let ok = verdict-row n t (flag named) (l, r, p) v in
+    let few = R .few in
+    let room = R .room in
+    (omega (arith, ok .first), omega (arith, ok .second))
+
+-- the rows so far can take one more
+pub adds-some : {n : ℕ} {xs : List ℕ} {t l r p : ℕ} {named names larger small up waits : List ℕ} → Reads n xs t named names larger small up waits
+    → Row-at n xs t l r p → verdict (flag named) (n + t) (l, r, p) ≡ 0 → (rs : List Row) × Adds n rs t l r names larger small up waits
+adds-some {xs = xs} {t = t} R A v = (take t (rowsOf xs), reads-adds R A v)
+
+-- and have taken it, where adding does as it says for any rows
+pub reads-more : {n : ℕ} {xs : List ℕ} {t l r p : ℕ} {named names larger small up waits names′ larger′ small′ up′ waits′ : List ℕ}
+    → Reads n xs t named names larger small up waits → Row-at n xs t l r p → verdict (flag named) (n + t) (l, r, p) ≡ 0
+    → ((rs : List Row) → Adds n rs t l r names larger small up waits → Built n (rs ++ ((l, r, n + t) ∷ [])) names′ larger′ small′ up′ waits′)
+    → Reads n xs (t + 1) (set (set named l 1) r 1) names′ larger′ small′ up′ waits′
+reads-more {xs = xs} {t = t} R A v f = reads-next R A v (f (take t (rowsOf xs)) (reads-adds R A v))

@@ -114,3 +114,18 @@ same-child named p l r q e h k f g s = rw (eq-eqb q p e, lt-ltb l p h, lt-ltb r 
 pub no-verdict : (named : List ℕ) (p l r q : ℕ) → q ≡ p → l < p → r < p → getD named l 0 ≡ 0 → getD named r 0 ≡ 0 → l ≢ r → 0 ≡ verdict (flag named) p (l, r, q)
 unfolding verdict
 no-verdict named p l r q e h k f g s = rw (eq-eqb q p e, lt-ltb l p h, lt-ltb r p k, unflagged named l f, unflagged named r g, ne-eqb l r s)
+
+-- the number of a row's refusal: 5, 6, else 7
+unfoldable pub rowNumber : ℕ → ℕ
+rowNumber x = cond (eqb x 5) 5 (cond (eqb x 6) 6 7)
+
+-- a verdict that is not 0 is such a number
+pub verdict-number : (named : ℕ → Bool) (p : ℕ) (r : Row) → verdict named p r ≢ 0 → rowNumber (verdict named p r) ≡ verdict named p r
+unfolding verdict rowNumber
+verdict-number named p r d = go (not (eqb (r .2) p)) (not (childrenBelow p r)) (namedTwice named r) d
+  where
+    go : (a b c : Bool) → firstOf a b c ≢ 0 → cond (eqb (firstOf a b c) 5) 5 (cond (eqb (firstOf a b c) 6) 6 7) ≡ firstOf a b c
+    go true b c h = refl
+    go false true c h = refl
+    go false false true h = refl
+    go false false false h = absurd (h refl)

@@ -4,6 +4,8 @@ ghost use mathlib.Core.List.{_++_};
 ghost use Prim.Native.Nat.{_+_, _-_, _*_, _≤_, _<_};
 ghost use lib.ListN.{length, drop};
 ghost use Rattle.reading.specs.Verdict.{flag, verdict};
+ghost use Rattle.reading.specs.Reading.{Reads};
+ghost use Rattle.reading.specs.Told.{HasRead, Told};
 
 // The number of the refusal of a row, or 0, and which row it is.
 pub struct Found {
@@ -41,4 +43,53 @@ fn row_verdict(named: &[u8], p: usize, l: usize, r: usize, parent: usize) -> u8
         return 7;
     }
     0
+}
+
+// Reads the rows of a table with n leaves: the first that is refused, or none, and then the arrays hold the tree.
+fn read_rows(
+    n: usize,
+    rows: &[u16],
+    named: &mut [u8],
+    names: &mut [u16],
+    larger: &mut [u16],
+    small: &mut [u16],
+    up: &mut [u16],
+    waits: &mut [u8],
+) -> Found
+    requires { ⌜ Reads n (now rows) 0 (now named) (now names) (now larger) (now small) (now up) (now waits) ⌝ }
+    ensures { λ r. ⌜ HasRead n (now (rows .entry)) (now (names .exit)) (now (larger .exit)) (now (small .exit)) (now (up .exit)) (now (waits .exit)) r ⌝ }
+{
+    let last = n - 1;
+    let mut t: usize = 0;
+    while t < last {
+        let l = wide(rows[3 * t]);
+        let r = wide(rows[3 * t + 1]);
+        let x = row_verdict(named, n + t, l, r, wide(rows[3 * t + 2]));
+        if x != 0 {
+            return Found { number: x, row: t };
+        }
+        order::add_pair(names, larger, small, up, waits, n, t, l, r);
+        named[l] = 1;
+        named[r] = 1;
+        t += 1;
+    }
+    Found { number: 0, row: 0 }
+}
+
+// Reads a table with n leaves: the first row that is refused, or none, and then vector begins with the vector of its tree.
+pub fn table_vector(n: usize, rows: &[u16], vector: &mut [u16]) -> Found
+    requires { ⌜ (1 ≤ n) × (n ≤ 1024) × (length (now rows) ≡ 3 * (n - 1)) × (n ≤ length (now vector)) ⌝ }
+    ensures { λ r. ⌜ Told n (now (rows .entry)) (now (vector .entry)) (now (vector .exit)) r ⌝ }
+{
+    let mut named = [0u8; 2048];
+    let mut names = [0u16; 1024];
+    let mut larger = [0u16; 1024];
+    let mut small = [0u16; 1024];
+    let mut up = [0u16; 1024];
+    let mut waits = [0u8; 1024];
+    let found = read_rows(n, rows, &mut named, &mut names, &mut larger, &mut small, &mut up, &mut waits);
+    if found.number == 0 {
+        order::vector_of(n, &up, &mut waits, &small, vector);
+    }
+    found
 }

@@ -79,7 +79,7 @@ pub fn leaf_count(s: &[u8]) -> usize
     requires { ⌜ 2 ≤ length (now s) ⌝ }
     ensures { λ r. ⌜ r ≡ leafCount (now (s .entry)) ⌝ }
 {
-    bits::read_field(s, 0, 11) as usize
+    bits::field_at(s, 0, 11) as usize
 }
 
 /// Reads the n entries whose fields start at bit `start` into the front of `out`.
@@ -93,7 +93,7 @@ pub fn read_entries(s: &[u8], start: usize, n: usize, out: &mut [u16])
     let mut i = 1;
     while i < n {
         let w = field_width(i);
-        out[i] = small(bits::read_field(s, at, w));
+        out[i] = small(bits::field_at(s, at, w));
         at += w as usize;
         i += 1;
     }
@@ -104,5 +104,5 @@ pub fn padding_set(s: &[u8], at: usize) -> bool
     requires { ⌜ (length (now s) ≤ 2 ^ 32) × (at ≤ 8 * length (now s)) × (8 * length (now s) ≤ at + 7) ⌝ }
     ensures { λ r. ⌜ r ≡ anySet (drop at (bitsOf (now (s .entry)))) ⌝ }
 {
-    bits::read_field(s, at, (8 * s.len() - at) as u32) != 0
+    bits::field_at(s, at, (8 * s.len() - at) as u32) != 0
 }

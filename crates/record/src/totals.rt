@@ -1044,4 +1044,3 @@ pub fn bits_before(n: usize) -> usize
 {
     wide(TOTALS[n - 1])
 }
-

@@ -79,7 +79,7 @@ row-bits : (v : List ℕ) → AreBits (row v)
 row-bits v = are-append (field 11 (length v)) (fields 0 v) (are-field 11 (length v)) (are-fields 0 v)
 
 -- the zero bits behind the fields of n entries
-abbrev pad : ℕ → Bits
+abbrev pub pad : ℕ → Bits
 pad n = replicate (8 * recordLength n - total n) 0
 
 -- the bits of a record: n, the fields, and zero bits

@@ -1,5 +1,5 @@
 -- How many bits a number needs, the width of an entry's field, and the totals of bits.
--- Main results: needed-lt, needed-unique, needed-leading, width-fits, width-same, total-one, total-last, record-length-most.
+-- Main results: needed-lt, needed-unique, needed-leading, width-fits, total-one, total-last, record-length-most.
 use mathlib.Core.Path.{_≡_, refl, sym, ap, _∙_}
 use mathlib.Core.Bool.{Bool, true, false}
 use Prim.Native.Nat.{ℕ, zero, suc, _+_, _-_, _*_, _/_, _%_, _^_, _≤_, _<_, max}
@@ -8,7 +8,7 @@ use native.Mathlib.Numerals.{add-one}
 use native.Mathlib.Omega.{arith}
 use lib.Dec.{lit<, ltb}
 use lib.Arith.{half-le}
-use lib.Pow.{pow-pos, pow-mono, shr-lt}
+use lib.Pow.{pow-mono, shr-lt}
 use lib.Count.{leadingZeros}
 use borrow.Author.Tests.{ltb-true, ltb-false}
 use Rattle.rules.specs.Vector.{bound}
@@ -95,14 +95,6 @@ width-one = refl
 pub width-most : (i : ℕ) → i ≤ 1024 → width i ≤ 11
 unfolding width bound
 width-most i h = power-le (bitsNeeded (2 * (i - 1))) 11 (omega (arith, needed-least (2 * (i - 1))))
-
--- entries from i up to the next power of two have the width of i
-pub width-same : (i j w : ℕ) → width i ≡ suc w → i ≤ j → j ≤ 2 ^ w → width j ≡ suc w
-unfolding width bound
-width-same i j w e l h =
-    needed-unique (2 * (j - 1)) (suc w)
-    (rw (pow-suc 2 w) (omega (arith, pow-pos w)))
-    (omega (arith, rw e at (needed-least (2 * (i - 1)))))
 
 pub total-suc : (n : ℕ) → total (suc n) ≡ total n + width n
 unfolding total

@@ -8,7 +8,8 @@ ghost use mathlib.Core.Path.{_≡_};
 ghost use lib.ListN.{length};
 ghost use Rattle.rules.specs.Answer.{refused, numberOf, reads, answer, after};
 ghost use Rattle.rules.specs.Calls as calls;
-ghost use Rattle.rules.specs.Calls.{toTable};
+ghost use Rattle.rules.specs.Calls.{toTable, fromTable};
+ghost use Rattle.reading.specs.Verdict.{rowNumber};
 
 // Whether v is a vector: 1, 4.
 pub fn check(v: &[u16]) -> Answer
@@ -44,6 +45,46 @@ pub fn to_table(v: &[u16], out: &mut [u16]) -> Answer
             Answer::Done(needed)
         }
     }
+}
+
+// Merge table to vector: 1, 2, then 5, 6 and 7 row by row, 3.
+pub fn from_table(leaves: usize, rows: &[u16], out: &mut [u16]) -> Answer
+    ensures { λ r. ⌜ reads r ≡ answer (fromTable leaves (now (rows .entry))) (length (now (out .entry))) ⌝ }
+    ensures { λ r. ⌜ now (out .exit) ≡ after (fromTable leaves (now (rows .entry))) (length (now (out .entry))) (now (out .entry)) ⌝ }
+{
+    if leaves == 0 {
+        return refuse(Kind::LeafCount, 0);
+    }
+    if 1024 < leaves {
+        return refuse(Kind::LeafCount, 0);
+    }
+    let wanted = 3 * (leaves - 1);
+    if rows.len() != wanted {
+        return refuse(Kind::InputLength, wanted);
+    }
+    let mut vector = [0u16; 1024];
+    let found = reading::table_vector(leaves, rows, &mut vector);
+    if found.number != 0 {
+        return refuse(row_kind(found.number), found.row);
+    }
+    if out.len() < leaves {
+        return refuse(Kind::Room, leaves);
+    }
+    vector::copy_out(&vector, leaves, out);
+    Answer::Done(leaves)
+}
+
+// The kind of a row's refusal.
+fn row_kind(number: u8) -> Kind
+    ensures { λ r. ⌜ numberOf r ≡ rowNumber number ⌝ }
+{
+    if number == 5 {
+        return Kind::Parent;
+    }
+    if number == 6 {
+        return Kind::Child;
+    }
+    Kind::NamedBefore
 }
 
 // Vector to packed record: 1, 4, 3.

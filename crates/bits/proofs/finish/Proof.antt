@@ -1,42 +1,32 @@
+-- `bits::finish` meets its contract: the last byte is filled up with zero bits (`fill-held`), or no bits are left.
 use native.Mathlib.Omega.{arith}
 use borrow.Author.Needs.{needs}
 use mathlib.Core.Path.{_≡_}
 use Rattle.bits.proofs.Writing.{fill-held, none-held}
 use Rattle.bits.proofs.finish.Statement.{statement}
 use Rattle.bits.proofs.finish.Tie as tie
-use Rattle.bits.proofs.finish.Reads as reads
-use Rattle.bits.proofs.finish.Lts as lts
-use Rattle.bits.proofs.flush.Reads as flush-reads
 
--- src/lib.rt:98:9
 flush-requires : tie.Need-flush-requires
 flush-requires c κs = search needs
 
--- src/lib.rt:101:31
 sub-out : tie.Need-sub-out
 sub-out c = search needs
 
--- src/lib.rt:101:31
 cast-out : tie.Need-cast-out
 cast-out c = search needs
 
--- src/lib.rt:101:21
 shl-out : tie.Need-shl-out
 shl-out c = search needs
 
--- src/lib.rt:101:19
 cast-out-2 : tie.Need-cast-out-2
 cast-out-2 c = search needs
 
--- src/lib.rt:101:9
 slice-write-out : tie.Need-slice-write-out
 slice-write-out c = search needs
 
--- src/lib.rt:94:1
 same-length : tie.Need-same-length
 same-length c = search needs
 
--- src/lib.rt:94:1
 returns : tie.Need-returns
 returns c =
     let q = c .before .before .before .before .before .before .flush .result in
@@ -45,11 +35,9 @@ returns c =
           fill-held bits old (q .acc) (q .have) (q .at) _ (c .before .before .if1 .taken) (c .before .before .before .before .before .before .flush .ensures .below) (omega arith) (c .before .before .before .before .before .before .flush .ensures .held bits old r);
     }
 
--- src/lib.rt:94:1
 same-length-2 : tie.Need-same-length-2
 same-length-2 c = search needs
 
--- src/lib.rt:94:1
 returns-2 : tie.Need-returns-2
 returns-2 c =
     let q = c .before .before .before .before .flush .result in

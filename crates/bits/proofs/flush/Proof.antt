@@ -1,11 +1,10 @@
+-- `bits::flush` meets its contract. The loop keeps `Storing`; the measure is the number of bits not stored.
 use native.Mathlib.Omega.{arith}
 use borrow.Author.Needs.{needs}
 use mathlib.Core.Path.{refl}
 use Rattle.bits.proofs.Writing.{Storing, storing-next}
 use Rattle.bits.proofs.flush.Statement.{statement}
 use Rattle.bits.proofs.flush.Tie as tie
-use Rattle.bits.proofs.flush.Reads as reads
-use Rattle.bits.proofs.flush.Lts as lts
 
 abbrev Inv-loop : tie.InvT-loop
 Inv-loop out₀ acc have₀ at₀ out have at = Storing out₀ acc have₀ at₀ out have at
@@ -13,43 +12,33 @@ Inv-loop out₀ acc have₀ at₀ out have at = Storing out₀ acc have₀ at₀
 abbrev μ-loop : tie.MeasureT-loop
 μ-loop out₀ acc have₀ at₀ out have at = have
 
--- src/lib.rt:85:5
 loop-holds : tie.Need-loop-holds Inv-loop μ-loop
 loop-holds c = record { same = refl; count = refl; room = search needs; few = search needs; held = λ bits old r. r }
 
--- src/lib.rt:87:28
 cast-out : tie.Need-cast-out Inv-loop μ-loop
 cast-out c = search needs
 
--- src/lib.rt:87:21
 shr-out : tie.Need-shr-out Inv-loop μ-loop
 shr-out c = search needs
 
--- src/lib.rt:87:19
 cast-out-2 : tie.Need-cast-out-2 Inv-loop μ-loop
 cast-out-2 c = search needs
 
--- src/lib.rt:87:9
 slice-write-out : tie.Need-slice-write-out Inv-loop μ-loop
 slice-write-out c = search needs
 
--- src/lib.rt:88:9
 add-at : tie.Need-add-at Inv-loop μ-loop
 add-at c = search needs
 
--- src/lib.rt:85:5
 loop-less : tie.Need-loop-less Inv-loop μ-loop
 loop-less c = search needs
 
--- src/lib.rt:85:5
 loop-again : tie.Need-loop-again Inv-loop μ-loop
 loop-again c = storing-next (c .before .loop .inv) (c .loop-test .taken)
 
--- src/lib.rt:78:1
 same-length : tie.Need-same-length Inv-loop μ-loop
 same-length c = search needs
 
--- src/lib.rt:78:1
 returns : tie.Need-returns Inv-loop μ-loop
 returns c = record { below = search needs; count = search needs; held = c .before .loop .inv .held }
 

@@ -1,3 +1,4 @@
+-- `bits::read_field` meets its contract: the shift and the mask take the field out of the four bytes where it starts (`value-four`).
 use native.Mathlib.Omega.{arith}
 use borrow.Author.Needs.{needs}
 use mathlib.Core.Path.{_≡_, sym, ap, _∙_}
@@ -10,9 +11,6 @@ use lib.Pow.{pow-pos, pow-lt, pow-mono}
 use Rattle.record_laws.specs.Window.{valueAt, fourAt, value-four}
 use Rattle.bits.proofs.read_field.Statement.{statement}
 use Rattle.bits.proofs.read_field.Tie as tie
-use Rattle.bits.proofs.read_field.Reads as reads
-use Rattle.bits.proofs.read_field.Lts as lts
-use Rattle.bits.proofs.four_at.Reads as four-at-reads
 
 mask : (w : ℕ) → w ≤ 16 → 1 * 2 ^ w % 2 ^ 64 ≡ 2 ^ w
 mask w h = ap (λ (n : ℕ). n % 2 ^ 64) (one-mul (2 ^ w)) ∙ mod-eq-of-lt (pow-lt {i = w} {j = 64} (omega arith))
@@ -24,49 +22,38 @@ read : (s : List ℕ) (at w x : ℕ) → w ≤ 16 → ((i : ℕ) → getD s i 0 
     → bitAnd (x / 2 ^ (32 - at % 8 - w)) (1 * 2 ^ w % 2 ^ 64 - 1) ≡ valueAt s at w
 read s at w x h b l e = rw (mask w h, and-mask, e) (sym (value-four s at w b l (omega arith)))
 
--- src/lib.rt:45:13
 cast-o : tie.Need-cast-o
 cast-o c = search needs
 
--- src/lib.rt:46:16
 four-at-requires : tie.Need-four-at-requires
 four-at-requires c κs = search needs
 
--- src/lib.rt:46:16
 cast-word : tie.Need-cast-word
 cast-word c = search needs
 
--- src/lib.rt:47:16
 sub-result : tie.Need-sub-result
 sub-result c = search needs
 
--- src/lib.rt:47:16
 sub-result-2 : tie.Need-sub-result-2
 sub-result-2 c = search needs
 
--- src/lib.rt:47:16
 cast-result : tie.Need-cast-result
 cast-result c = search needs
 
--- src/lib.rt:47:7
 shr-result : tie.Need-shr-result
 shr-result c = search needs
 
--- src/lib.rt:47:37
 shl-result : tie.Need-shl-result
 shl-result c = search needs
 
--- src/lib.rt:47:36
 sub-result-3 : tie.Need-sub-result-3
 sub-result-3 c = rw (mask (c .before .before .args .width) (omega arith)) (pow-pos (c .before .before .args .width))
 
--- src/lib.rt:47:5
 cast-result-2 : tie.Need-cast-result-2
 cast-result-2 c =
     let a = c .before .before .args in
     record { fits = masked-small (a .width) (c .four-at .result / 2 ^ (32 - a .at % 8 - a .width)) (omega arith) }
 
--- src/lib.rt:41:1
 returns : tie.Need-returns
 returns c =
     let a = c .before .before .args in

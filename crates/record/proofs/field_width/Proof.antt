@@ -1,3 +1,4 @@
+-- `record::field_width` meets its contract: the bits that a number needs, from its leading zeros (`needed-leading`).
 use native.Mathlib.Omega.{arith}
 use borrow.Author.Needs.{needs}
 use Prim.Native.Nat.{_-_, _*_}
@@ -7,26 +8,19 @@ use Rattle.rules.specs.Record.{width}
 use Rattle.record_laws.specs.Width.{needed-leading}
 use Rattle.record.proofs.field_width.Statement.{statement}
 use Rattle.record.proofs.field_width.Tie as tie
-use Rattle.record.proofs.field_width.Reads as reads
-use Rattle.record.proofs.field_width.Lts as lts
 
--- src/lib.rt:107:35
 sub-result : tie.Need-sub-result
 sub-result c = search needs
 
--- src/lib.rt:107:30
 mul-result : tie.Need-mul-result
 mul-result c = search needs
 
--- src/lib.rt:107:29
 cast-result : tie.Need-cast-result
 cast-result c = search needs
 
--- src/lib.rt:107:5
 sub-result-2 : tie.Need-sub-result-2
-sub-result-2 c = leading-le 32 (2 * (c .args .i - 1))
+sub-result-2 c = leading-le 32 _
 
--- src/lib.rt:103:1
 returns : tie.Need-returns
 unfolding width bound
 returns c = omega (arith, needed-leading 32 (2 * (c .args .i - 1)) (omega arith))

@@ -1,31 +1,23 @@
+-- `record::pack_into` meets its contract: the count, the entries and the last byte are the record (`packed`).
 use native.Mathlib.Omega.{arith}
 use borrow.Author.Needs.{needs}
 use Rattle.record_laws.specs.Inverse.{valid-fit}
 use Rattle.record.proofs.Packing.{packed, record-room}
 use Rattle.record.proofs.pack_into.Statement.{statement}
 use Rattle.record.proofs.pack_into.Tie as tie
-use Rattle.record.proofs.pack_into.Reads as reads
-use Rattle.record.proofs.pack_into.Lts as lts
-use Rattle.bits.proofs.finish.Reads as finish-reads
-use Rattle.bits.proofs.put_field.Reads as put-field-reads
-use Rattle.record.proofs.put_entries.Reads as put-entries-reads
 
--- src/lib.rt:143:74
 cast-put-field : tie.Need-cast-put-field
 cast-put-field c = search needs
 
--- src/lib.rt:143:9
 put-field-requires : tie.Need-put-field-requires
 put-field-requires c κs = let f = record-room _ _ (c .before .before .before .pre .2) in (omega arith, omega arith, omega arith, omega arith)
 
--- src/lib.rt:144:9
 put-entries-requires : tie.Need-put-entries-requires
 put-entries-requires c κs =
     let f = record-room _ _ (c .before .before .before .before .before .before .before .pre .2) in
     let p = c .before .before .before .put-field .ensures in
     ((c .before .before .before .before .before .before .before .pre .0 .some-leaf, c .before .before .before .before .before .before .before .pre .1, valid-fit _ (c .before .before .before .before .before .before .before .pre .0)), (p .below, omega (arith, f .0, f .1, p .count, c .before .before .before .put-field .kept .0)))
 
--- src/lib.rt:145:5
 finish-requires : tie.Need-finish-requires
 finish-requires c κs =
     let f = record-room _ _ (c .before .before .before .before .before .before .before .before .before .before .before .pre .2) in
@@ -33,11 +25,9 @@ finish-requires c κs =
     let q = c .before .before .before .put-entries .ensures in
     (q .below, omega (arith, f .0, f .1, p .count, q .count, c .before .before .before .before .before .before .before .put-field .kept .0, c .before .before .before .put-entries .kept .1 .0))
 
--- src/lib.rt:139:1
 same-length : tie.Need-same-length
 same-length c = search needs
 
--- src/lib.rt:139:1
 returns : tie.Need-returns
 returns c = packed _ _ _ _ _ _ _ (c .before .before .before .before .before .before .before .before .before .before .put-field .ensures) (c .before .before .before .before .before .before .put-entries .ensures) (c .before .before .finish .ensures)
 

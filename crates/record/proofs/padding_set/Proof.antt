@@ -1,32 +1,25 @@
+-- `record::padding_set` meets its contract: a bit is set where the number is not 0 (`set-value`).
 use native.Mathlib.Omega.{arith}
 use borrow.Author.Needs.{needs}
 use Rattle.record.proofs.Reading.{set-value}
 use Rattle.record.proofs.padding_set.Statement.{statement}
 use Rattle.record.proofs.padding_set.Tie as tie
-use Rattle.record.proofs.padding_set.Reads as reads
-use Rattle.record.proofs.padding_set.Lts as lts
-use Rattle.bits.proofs.read_field.Reads as read-field-reads
 
--- src/lib.rt:178:30
-mul-read-field : tie.Need-mul-read-field
-mul-read-field c = search needs
+mul-field-at : tie.Need-mul-field-at
+mul-field-at c = search needs
 
--- src/lib.rt:178:30
-sub-read-field : tie.Need-sub-read-field
-sub-read-field c = search needs
+sub-field-at : tie.Need-sub-field-at
+sub-field-at c = search needs
 
--- src/lib.rt:178:29
-cast-read-field : tie.Need-cast-read-field
-cast-read-field c = search needs
+cast-field-at : tie.Need-cast-field-at
+cast-field-at c = search needs
 
--- src/lib.rt:178:5
-read-field-requires : tie.Need-read-field-requires
-read-field-requires c κs = search needs
+field-at-requires : tie.Need-field-at-requires
+field-at-requires c κs = search needs
 
--- src/lib.rt:174:1
 returns : tie.Need-returns
-returns c = rw (c .read-field .ensures) (set-value (c .before .before .args .s .now) (c .before .before .args .at))
+returns c = rw (c .field-at .ensures) (set-value (c .before .before .args .s .now) (c .before .before .args .at))
 
 pub padding-set-spec : {M : Type 1} → statement M
 padding-set-spec =
-    tie.close (tie.spec mul-read-field sub-read-field cast-read-field read-field-requires returns)
+    tie.close (tie.spec mul-field-at sub-field-at cast-field-at field-at-requires returns)

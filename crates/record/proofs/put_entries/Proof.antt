@@ -1,3 +1,4 @@
+-- `record::put_entries` meets its contract. The loop keeps `Putting`; the measure is the number of entries left.
 use native.Mathlib.Omega.{arith}
 use borrow.Author.Needs.{needs}
 use mathlib.Core.Path.{_≡_}
@@ -7,11 +8,6 @@ use lib.ListN.{length}
 use Rattle.record.proofs.Putting.{Putting, putting-start, putting-fits, putting-next}
 use Rattle.record.proofs.put_entries.Statement.{statement}
 use Rattle.record.proofs.put_entries.Tie as tie
-use Rattle.record.proofs.put_entries.Reads as reads
-use Rattle.record.proofs.put_entries.Lts as lts
-use Rattle.bits.proofs.put_field.Reads as put-field-reads
-use Rattle.record.proofs.field_width.Reads as field-width-reads
-use Rattle.record.proofs.long.Reads as long-reads
 
 abbrev Inv-loop : tie.InvT-loop
 Inv-loop v out₀ q₀ i₀ out q i = Putting v out₀ q₀ out q i
@@ -19,29 +15,23 @@ Inv-loop v out₀ q₀ i₀ out q i = Putting v out₀ q₀ out q i
 abbrev μ-loop : tie.MeasureT-loop
 μ-loop v out₀ q₀ i₀ out q i = length v - i
 
--- src/lib.rt:131:5
 loop-holds : tie.Need-loop-holds Inv-loop μ-loop
 loop-holds c =
     let b = c .before .before in
     putting-start _ _ _ (omega arith) (omega arith) (b .pre .0 .2) (omega arith) (omega arith)
 
--- src/lib.rt:132:37
 field-width-requires : tie.Need-field-width-requires Inv-loop μ-loop
 field-width-requires c κs = search needs
 
--- src/lib.rt:132:58
 mul-long : tie.Need-mul-long Inv-loop μ-loop
 mul-long c = search needs
 
--- src/lib.rt:132:58
 shared-slice-read-long : tie.Need-shared-slice-read-long Inv-loop μ-loop
 shared-slice-read-long c = search needs
 
--- src/lib.rt:132:53
 long-requires : tie.Need-long-requires Inv-loop μ-loop
 long-requires c κs = search needs
 
--- src/lib.rt:132:9
 put-field-requires : tie.Need-put-field-requires Inv-loop μ-loop
 put-field-requires c κs =
     let f = putting-fits (c .before .before .before .before .before .loop .inv) (c .before .before .before .before .loop-test .taken) in (
@@ -51,25 +41,20 @@ put-field-requires c κs =
       rw (c .before .before .field-width .ensures) (f .2),
     )
 
--- src/lib.rt:133:9
 add-i : tie.Need-add-i Inv-loop μ-loop
 add-i c = search needs
 
--- src/lib.rt:131:5
 loop-less : tie.Need-loop-less Inv-loop μ-loop
 loop-less c = search needs
 
--- src/lib.rt:131:5
 loop-again : tie.Need-loop-again Inv-loop μ-loop
 loop-again c =
     putting-next (c .before .before .before .before .before .before .before .before .loop .inv) (c .before .before .before .before .before .before .before .loop-test .taken) (c .before .before .put-field .last .0) (c .before .before .put-field .result) (c .before .before .put-field .kept .0)
     (rw (c .before .before .before .long .ensures, c .before .before .before .before .before .field-width .ensures) at (c .before .before .put-field .ensures))
 
--- src/lib.rt:124:1
 same-length : tie.Need-same-length Inv-loop μ-loop
 same-length c = search needs
 
--- src/lib.rt:124:1
 returns : tie.Need-returns Inv-loop μ-loop
 returns c =
     let v = c .before .before .before .before .args .v .now in

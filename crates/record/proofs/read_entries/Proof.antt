@@ -1,3 +1,4 @@
+-- `record::read_entries` meets its contract. The loop keeps `Reading`; the measure is the number of entries left.
 use native.Mathlib.Omega.{arith}
 use borrow.Author.Needs.{needs}
 use mathlib.Core.Path.{_≡_, refl, _∙_}
@@ -9,11 +10,6 @@ use Rattle.record_laws.specs.Width.{total-one}
 use Rattle.record.proofs.Reading.{Reading, first-entry, reading-fits, reading-small, reading-next}
 use Rattle.record.proofs.read_entries.Statement.{statement}
 use Rattle.record.proofs.read_entries.Tie as tie
-use Rattle.record.proofs.read_entries.Reads as reads
-use Rattle.record.proofs.read_entries.Lts as lts
-use Rattle.bits.proofs.read_field.Reads as read-field-reads
-use Rattle.record.proofs.field_width.Reads as field-width-reads
-use Rattle.record.proofs.small.Reads as small-reads
 
 abbrev Inv-loop : tie.InvT-loop
 Inv-loop s start n out₀ at₀ i₀ out at i = Reading s start n out₀ out at i
@@ -21,11 +17,9 @@ Inv-loop s start n out₀ at₀ i₀ out at i = Reading s start n out₀ out at 
 abbrev μ-loop : tie.MeasureT-loop
 μ-loop s start n out₀ at₀ i₀ out at i = n - i
 
--- src/lib.rt:162:5
 slice-write-out : tie.Need-slice-write-out Inv-loop μ-loop
 slice-write-out c = search needs
 
--- src/lib.rt:165:5
 loop-holds : tie.Need-loop-holds Inv-loop μ-loop
 loop-holds c =
     let a = c .before .before .args in
@@ -41,33 +35,26 @@ loop-holds c =
       done = first-entry (a .s .now) (a .start) (a .out .now) (omega arith);
     }
 
--- src/lib.rt:166:13
 field-width-requires : tie.Need-field-width-requires Inv-loop μ-loop
 field-width-requires c κs = search needs
 
--- src/lib.rt:167:24
-read-field-requires : tie.Need-read-field-requires Inv-loop μ-loop
-read-field-requires c κs =
+field-at-requires : tie.Need-field-at-requires Inv-loop μ-loop
+field-at-requires c κs =
     let f = reading-fits (c .before .before .loop .inv) (c .before .loop-test .taken) in
     rw (c .field-width .ensures) (search needs)
 
--- src/lib.rt:167:18
 small-requires : tie.Need-small-requires Inv-loop μ-loop
-small-requires c κs = rw (c .read-field .ensures, c .before .field-width .ensures) (reading-small (c .before .before .before .loop .inv) (c .before .before .loop-test .taken))
+small-requires c κs = rw (c .field-at .ensures, c .before .field-width .ensures) (reading-small (c .before .before .before .loop .inv) (c .before .before .loop-test .taken))
 
--- src/lib.rt:167:9
 mul-out : tie.Need-mul-out Inv-loop μ-loop
 mul-out c = search needs
 
--- src/lib.rt:167:9
 slice-write-out-2 : tie.Need-slice-write-out-2 Inv-loop μ-loop
 slice-write-out-2 c = search needs
 
--- src/lib.rt:168:15
 cast-at : tie.Need-cast-at Inv-loop μ-loop
 cast-at c = search needs
 
--- src/lib.rt:168:9
 add-at : tie.Need-add-at Inv-loop μ-loop
 add-at c =
     omega (
@@ -77,25 +64,20 @@ add-at c =
       c .before .before .before .before .loop .inv .short,
     )
 
--- src/lib.rt:169:9
 add-i : tie.Need-add-i Inv-loop μ-loop
 add-i c = search needs
 
--- src/lib.rt:165:5
 loop-less : tie.Need-loop-less Inv-loop μ-loop
 loop-less c = search needs
 
--- src/lib.rt:165:5
 loop-again : tie.Need-loop-again Inv-loop μ-loop
 loop-again c =
-    rw (c .small .ensures, c .before .read-field .ensures, c .before .before .field-width .ensures)
+    rw (c .small .ensures, c .before .field-at .ensures, c .before .before .field-width .ensures)
     (reading-next (c .before .before .before .before .loop .inv) (c .before .before .before .loop-test .taken))
 
--- src/lib.rt:157:1
 same-length : tie.Need-same-length Inv-loop μ-loop
 same-length c = c .before .loop .inv .same ∙ simp length-set
 
--- src/lib.rt:157:1
 returns : tie.Need-returns Inv-loop μ-loop
 unfolding entriesFrom
 returns c =
@@ -112,7 +94,7 @@ read-entries-spec =
     slice-write-out
     loop-holds
     field-width-requires
-    read-field-requires
+    field-at-requires
     small-requires
     mul-out
     slice-write-out-2

@@ -1,0 +1,49 @@
+use Rattle.calls.proofs.Fronts.{front, front-counts}
+use native.Mathlib.Omega.{arith}
+use borrow.Author.Needs.{needs}
+use Rattle.calls.proofs.stream.lent_bytes.Statement.{statement}
+use Rattle.calls.proofs.stream.lent_bytes.Tie as tie
+use Rattle.calls.proofs.stream.lent_bytes.Reads as reads
+use Rattle.calls.proofs.stream.lent_bytes.Lts as lts
+use Rattle.calls.proofs.stream.fill_bytes.Reads as fill-bytes-reads
+use Rattle.calls.proofs.stream.length.Reads as length-reads
+
+-- src/stream.rt:146:9
+length-requires : tie.Need-length-requires
+length-requires c κs = search needs
+
+-- src/stream.rt:148:9
+returns : tie.Need-returns
+returns c = search needs
+
+-- src/stream.rt:153:26
+slice-relend-prefix-fill-bytes : tie.Need-slice-relend-prefix-fill-bytes
+slice-relend-prefix-fill-bytes c = search needs
+
+-- src/stream.rt:153:26
+slice-aggregate-fill-bytes : tie.Need-slice-aggregate-fill-bytes
+slice-aggregate-fill-bytes c = front _ _ (c .before .if1 .left)
+
+-- src/stream.rt:153:9
+fill-bytes-requires : tie.Need-fill-bytes-requires
+fill-bytes-requires c κs = search needs
+
+-- src/stream.rt:143:1
+same-length : tie.Need-same-length
+same-length c = search needs
+
+-- src/stream.rt:143:1
+returns-2 : tie.Need-returns-2
+returns-2 c = front-counts _ (c .before .before .fill-bytes .last .0) _ (c .before .before .before .before .if1 .left) (c .before .before .fill-bytes .kept .0)
+
+pub lent-bytes-spec : {M : Type 1} → statement M
+lent-bytes-spec =
+    tie.close
+    (tie.spec
+    length-requires
+    returns
+    slice-relend-prefix-fill-bytes
+    slice-aggregate-fill-bytes
+    fill-bytes-requires
+    same-length
+    returns-2)

@@ -1,0 +1,63 @@
+use mathlib.Core.Path.{_≡_}
+use lib.ListN.{length, length-set}
+use Prim.Native.Nat.{_-_, _≤_}
+use native.Mathlib.Omega.{arith}
+use borrow.Author.Needs.{needs}
+use Rattle.calls.proofs.stream.rise_bytes.Statement.{statement}
+use Rattle.calls.proofs.stream.rise_bytes.Tie as tie
+use Rattle.calls.proofs.stream.rise_bytes.Reads as reads
+use Rattle.calls.proofs.stream.rise_bytes.Lts as lts
+use Rattle.std.proofs.num.wrapping_add_u8.Reads as wrapping-add-u8-reads
+
+abbrev Inv-loop : tie.InvT-loop
+Inv-loop first xs₀ x₀ k₀ xs x k = (length xs ≡ length xs₀) × (k ≤ length xs₀)
+
+abbrev μ-loop : tie.MeasureT-loop
+μ-loop first xs₀ x₀ k₀ xs x k = length xs₀ - k
+
+-- src/stream.rt:187:5
+loop-holds : tie.Need-loop-holds Inv-loop μ-loop
+loop-holds c = search needs
+
+-- src/stream.rt:188:9
+slice-write-xs : tie.Need-slice-write-xs Inv-loop μ-loop
+slice-write-xs c = search needs
+
+-- src/stream.rt:189:9
+wrapping-add-u8-requires : tie.Need-wrapping-add-u8-requires Inv-loop μ-loop
+wrapping-add-u8-requires c κs = search needs
+
+-- src/stream.rt:190:9
+add-k : tie.Need-add-k Inv-loop μ-loop
+add-k c = search needs
+
+-- src/stream.rt:187:5
+loop-less : tie.Need-loop-less Inv-loop μ-loop
+loop-less c = search needs
+
+-- src/stream.rt:187:5
+loop-again : tie.Need-loop-again Inv-loop μ-loop
+loop-again c = simp length-set (omega arith, omega arith)
+
+-- src/stream.rt:184:1
+same-length : tie.Need-same-length Inv-loop μ-loop
+same-length c = c .before .loop .inv .0
+
+-- src/stream.rt:184:1
+returns : tie.Need-returns Inv-loop μ-loop
+returns c = search needs
+
+pub rise-bytes-spec : {M : Type 1} → statement M
+rise-bytes-spec =
+    tie.close
+    (tie.spec
+    Inv-loop
+    μ-loop
+    loop-holds
+    slice-write-xs
+    wrapping-add-u8-requires
+    add-k
+    loop-less
+    loop-again
+    same-length
+    returns)

@@ -1,0 +1,176 @@
+-- Demand 3: two accepted inputs, in whatever notation, lead to the same vector exactly when they have the same clades, each worked out in its own
+-- notation; and every rooted binary tree with leaves 0 to n-1 is the tree of an accepted vector.
+-- Main definition: CladeOf (Input and Leads are in Leads). Main results: led, demand-three, every-tree-has-a-vector.
+use mathlib.Core.Bool.{Bool, true, false}
+use mathlib.Core.List.{List, []}
+use mathlib.Core.Logic.{_≢_, _⊎_, inl, inr, _↔_}
+use mathlib.Core.Option.{none, some}
+use mathlib.Core.Path.{_≡_, refl, sym, _∙_, subst}
+use Prim.Native.Nat.{ℕ, _-_, _*_, _≤_}
+use native.Mathlib.Omega.{arith}
+use lib.Dec.{ltb}
+use lib.ListN.{length}
+use borrow.Author.Tests.{ltb-true, ltb-false}
+use Rattle.rules.specs.Tree.{Tree, treeOf, LeavesBelow, Clade, SameClades}
+use Rattle.rules.specs.Order.{vectorOf}
+use Rattle.rules.specs.Table.{rowsOf, tableFault, tableTree, TableClade}
+use Rattle.rules.specs.Newick.{Text, labelsOf, labelFault}
+use Rattle.rules.specs.Record.{recordLength, leafCount, entriesOf, anySet, padding}
+use Rattle.rules.specs.Answer.{Made, made}
+use Rattle.rules.specs.Calls.{check, fromTable, FromText, too-long, breaks, reads-as, fromLabels, unpack}
+use Rattle.laws.specs.FromTable.{rows-accepted}
+use Rattle.laws.specs.OneToOne.{every-tree, same-clades-same-vector}
+use Rattle.record_laws.specs.Inverse.{length-entries}
+use Rattle.grammar.specs.Complete.{text-unique}
+use Rattle.grammar.specs.Faults.{no-fault-leaves}
+use Rattle.rows.specs.Forest.{rows-make-a-tree}
+use Rattle.rows.specs.Clades.{rows-clades}
+use Rattle.demands.specs.Given.{CountWrong, CountRight, WithinBounds, First, Above, Unfit, labelNumbers, labelPlace, FirstRow, RowWrong, TableRefused, table-1, table-2, table-row, RecordRefused, record-short, record-1, record-2, record-4, record-10, TextRefused, text-1, text-9}
+use Rattle.demands.specs.FirstPlace.{Found, label-found, padding-found}
+use Rattle.demands.specs.FirstWrongRow.{row-found}
+use Rattle.demands.specs.Settled.{count-cases, equal-cases, above-cases}
+use Rattle.demands.specs.SettledTable.{rows-of-long, settled-from-table}
+use Rattle.demands.specs.SettledRecord.{settled-unpack, entries-made}
+use Rattle.demands.specs.SettledText.{labels-fit, settled-from-text}
+use Rattle.demands.specs.Answered.{Accepted, made-accepted, made-not-refuses}
+use Rattle.demands.specs.Leads.{Input, vector, table, text, packed, Leads}
+use Rattle.demands.specs.DemandTwo.{Vector, accepted-exactly}
+
+-- the clades of an input, worked out in its own notation: by the building rule; by the rows alone; by the grammar's brackets; by the bits' entries
+abbrev pub CladeOf : Input → (ℕ → Bool) → Type 0
+CladeOf (vector v) c = Clade (treeOf v) c
+CladeOf (table n xs) c = TableClade n (rowsOf xs) c
+CladeOf (text s) c = (t : Tree) × Text s t × Clade t c
+CladeOf (packed s) c = Clade (treeOf (entriesOf (leafCount s) s)) c
+
+-- an accepted input leads to a vector of the demand, and its clades are those of the vector's tree
+pub record Led (a : Input) (v : List ℕ) : Type 0 where
+  pub vector-of : Vector v
+  pub clades : (c : ℕ → Bool) → CladeOf a c ↔ Clade (treeOf v) c
+
+-- the vector of a tree with leaves 0 to n-1
+of-tree : (n : ℕ) (t : Tree) → LeavesBelow n t → n ≤ 1024 → Vector (vectorOf t)
+of-tree n t L l =
+    let E = every-tree n t L in
+    let e = E .entries in
+    record { valid = E .valid; few = omega arith }
+
+led-vector : (v w : List ℕ) → Leads (vector v) w → Led (vector v) w
+led-vector v w h = rw (h .1) (record { vector-of = accepted-exactly v .0 (h .0); clades = λ c. (λ x. x, λ x. x) })
+
+-- a table that is accepted
+table-leads : (n : ℕ) (xs w : List ℕ) → fromTable n xs ≡ made w
+    → CountRight n × (length (rowsOf xs) ≡ n - 1) × (tableFault n (rowsOf xs) ≡ none) × (w ≡ vectorOf (tableTree n (rowsOf xs)))
+table-leads n xs w e = go (count-cases n) (equal-cases (length xs) (3 * (n - 1))) (row-found n (rowsOf xs))
+  where
+    right : Accepted (TableRefused n xs)
+    right = made-accepted (TableRefused n xs) n (fromTable n xs) (settled-from-table n xs) 0 w e
+
+    go : CountWrong n ⊎ CountRight n → ((length xs ≡ 3 * (n - 1) → ⊥)) ⊎ (length xs ≡ 3 * (n - 1))
+        → ((t : ℕ) × (k : ℕ) × (tableFault n (rowsOf xs) ≡ some (k, t)) × FirstRow n (rowsOf xs) k t)
+        ⊎ ((tableFault n (rowsOf xs) ≡ none) × ((j l : ℕ) → RowWrong n (rowsOf xs) l j → ⊥))
+        → CountRight n × (length (rowsOf xs) ≡ n - 1) × (tableFault n (rowsOf xs) ≡ none) × (w ≡ vectorOf (tableTree n (rowsOf xs)))
+    go (inl c) l f = absurd (right 1 0 (table-1 c))
+    go (inr c) (inl l) f = absurd (right 2 (3 * (n - 1)) (table-2 c l))
+    go (inr c) (inr l) (inl f) = absurd (right (f .1) (f .0) (table-row c l (f .3)))
+    go (inr c) (inr l) (inr f) =
+        let z : made w ≡ made (vectorOf (tableTree n (rowsOf xs))) =
+        sym e ∙ rows-accepted n xs (c .0) (c .1) l (f .0) in
+        (c, rows-of-long (n - 1) xs l, f .0, cc)
+
+led-table : (n : ℕ) (xs w : List ℕ) → Leads (table n xs) w → Led (table n xs) w
+unfolding SameClades
+led-table n xs w h =
+    let g = table-leads n xs w h in
+    let T = tableTree n (rowsOf xs) in
+    let L = rows-make-a-tree n (rowsOf xs) (g .2) (g .1) (g .0 .0) in
+    let same = every-tree n T L .clades in
+    let R = rows-clades n (rowsOf xs) (g .2) (g .1) (g .0 .0) in
+    rw (g .3) (record { vector-of = of-tree n T L (g .0 .1); clades = λ c. (λ x. same c .1 (R c .1 x), λ x. R c .0 (same c .0 x)) })
+
+-- a text that is accepted: the tree that it reads as
+text-leads : (s w : List ℕ) (m : Made) → FromText s m → m ≡ made w → (t : Tree) × (n : ℕ) × Text s t × LeavesBelow n t × (n ≤ 1024) × (w ≡ vectorOf t)
+text-leads s w m (too-long a) e = absurd (made-not-refuses (sym e))
+text-leads s w m (breaks a b) e = absurd (made-not-refuses (sym e))
+text-leads s w m (reads-as t a b) e = go (count-cases (length (labelsOf s))) (label-found (length (labelsOf s)) (labelsOf s))
+  where
+    right : Accepted (TextRefused s)
+    right = made-accepted (TextRefused s) (length (labelsOf s)) (fromLabels s t) (settled-from-text s (fromLabels s t) (reads-as t a b)) 0 w e
+
+    go : CountWrong (length (labelsOf s)) ⊎ CountRight (length (labelsOf s))
+        → Found (labelPlace s) (Unfit (length (labelsOf s)) (labelNumbers s)) (labelFault (length (labelsOf s)) [] (labelsOf s))
+        → (t : Tree) × (n : ℕ) × Text s t × LeavesBelow n t × (n ≤ 1024) × (w ≡ vectorOf t)
+    go (inl c) f = absurd (right 1 0 (text-1 a b c))
+    go (inr c) (inl f) = absurd (right 9 (labelPlace s (f .0)) (text-9 a b c (f .2)))
+    go (inr c) (inr f) =
+        let z : made w ≡ made (vectorOf t) = sym e ∙ labels-fit s t c (f .0) in
+        (t, length (labelsOf s), b, no-fault-leaves b (f .0), c .1, cc)
+
+led-text : (s w : List ℕ) → Leads (text s) w → Led (text s) w
+unfolding SameClades
+led-text s w h =
+    let g = text-leads s w (made w) h refl in
+    let same = every-tree (g .1) (g .0) (g .3) .clades in
+    rw (g .5)
+    (record {
+      vector-of = of-tree (g .1) (g .0) (g .3) (g .4);
+      clades = λ c. (
+        λ x. same c .1 (subst (λ (t : Tree). Clade t c) (text-unique (x .1) (g .2)) (x .2)),
+        λ x. (g .0, g .2, same c .0 x),
+      );
+    })
+
+-- a record that is accepted: its entries
+led-packed : (s w : List ℕ) → Leads (packed s) w → Led (packed s) w
+unfolding unpack
+led-packed s w h =
+    go (ltb (length s) 2) refl (count-cases (leafCount s)) (equal-cases (length s) (recordLength (leafCount s)))
+    (above-cases (entriesOf (leafCount s) s)) (anySet (padding (leafCount s) s)) refl
+  where
+    right : Accepted (RecordRefused s)
+    right = made-accepted (RecordRefused s) (leafCount s) (unpack s) (settled-unpack s) 0 w h
+
+    go : (b : Bool) → ltb (length s) 2 ≡ b → CountWrong (leafCount s) ⊎ CountRight (leafCount s)
+        → (length s ≢ recordLength (leafCount s)) ⊎ (length s ≡ recordLength (leafCount s))
+        → ((i : ℕ) × First (Above (entriesOf (leafCount s) s)) i) ⊎ WithinBounds (entriesOf (leafCount s) s)
+        → (d : Bool) → anySet (padding (leafCount s) s) ≡ d → Led (packed s) w
+    go true q c l a d e = absurd (right 2 2 (record-short (ltb-true (length s) 2 q)))
+    go false q (inl c) l a d e = absurd (right 1 0 (record-1 (ltb-false (length s) 2 q) c))
+    go false q (inr c) (inl l) a d e = absurd (right 2 (recordLength (leafCount s)) (record-2 (ltb-false (length s) 2 q) c l))
+    go false q (inr c) (inr l) (inl a) d e = absurd (right 4 (a .0) (record-4 (ltb-false (length s) 2 q) c l (a .1)))
+    go false q (inr c) (inr l) (inr b) true e =
+        absurd (right 10 (length s - 1) (record-10 (ltb-false (length s) 2 q) c l b (padding-found (leafCount s) s .0 e)))
+    go false q (inr c) (inr l) (inr b) false e =
+        let z : made w ≡ made (entriesOf (leafCount s) s) = sym h ∙ entries-made s (ltb-false (length s) 2 q) c l b e in
+        let k : w ≡ entriesOf (leafCount s) s = cc in
+        let n = length-entries (leafCount s) s in
+        rw k
+        (record {
+          vector-of = record { valid = record { some-leaf = rw n (c .0); bounded = b }; few = rw n (c .1) };
+          clades = λ c. (λ x. x, λ x. x);
+        })
+
+pub led : (a : Input) (v : List ℕ) → Leads a v → Led a v
+led (vector u) v h = led-vector u v h
+led (table n xs) v h = led-table n xs v h
+led (text s) v h = led-text s v h
+led (packed s) v h = led-packed s v h
+
+-- two accepted inputs lead to the same vector exactly when they have the same clades
+pub demand-three : (a b : Input) (v w : List ℕ) → Leads a v → Leads b w → (v ≡ w) ↔ ((c : ℕ → Bool) → CladeOf a c ↔ CladeOf b c)
+unfolding SameClades
+demand-three a b v w p q =
+    let A = led a v p in
+    let B = led b w q in
+    let one = same-clades-same-vector v w (A .vector-of .valid) (B .vector-of .valid) in (
+      λ e. λ c. (λ x. B .clades c .1 (one .0 e c .0 (A .clades c .0 x)), λ x. A .clades c .1 (one .0 e c .1 (B .clades c .0 x))),
+      λ s. one .1 (λ c. (λ x. B .clades c .0 (s c .0 (A .clades c .1 x)), λ x. A .clades c .0 (s c .1 (B .clades c .1 x)))),
+    )
+
+-- "every rooted binary tree with leaves 0 to n-1 .. is the tree of a vector", which is accepted and has an entry for each leaf
+pub every-tree-has-a-vector : (n : ℕ) (t : Tree) → LeavesBelow n t → n ≤ 1024
+    → (v : List ℕ) × (check v ≡ made []) × (length v ≡ n) × SameClades (treeOf v) t
+every-tree-has-a-vector n t L l =
+    let E = every-tree n t L in
+    let W = of-tree n t L l in
+    (vectorOf t, accepted-exactly (vectorOf t) .1 W, E .entries, E .clades)

@@ -1,0 +1,86 @@
+-- What a table that is read makes is settled by the conditions of its refusals.
+-- Main results: settled-from-table, rows-of-long.
+use mathlib.Core.List.{List, [], _∷_}
+use mathlib.Core.Logic.{_≢_, _⊎_, inl, inr}
+use mathlib.Core.Option.{none, some}
+use mathlib.Core.Path.{_≡_, refl, ap, ap₂, _∙_}
+use Prim.Native.Nat.{ℕ, zero, suc, _-_, _*_}
+use native.Mathlib.Omega.{arith}
+use lib.ListN.{length}
+use Rattle.rules.specs.declared.Kind.the-variants.{LeafCount, InputLength, Parent, Child, NamedBefore}
+use Rattle.rules.specs.Order.{vectorOf}
+use Rattle.rules.specs.Table.{Row, rowsOf, tableFault, tableTree}
+use Rattle.rules.specs.Answer.{numberOf, Made, made, refuses}
+use Rattle.rules.specs.Calls.{refuseFault, refuseCount, refuseLength, fromTable}
+use Rattle.clades.specs.Count.{size-below}
+use Rattle.laws.specs.Guards.{wrong-length, right-length}
+use Rattle.rows.specs.Forest.{rows-make-a-tree}
+use Rattle.demands.specs.Given.{CountWrong, CountRight, FirstRow, RowWrong, parent-wrong, child-not-below, child-named, TableRefused, table-1, table-2, table-row}
+use Rattle.demands.specs.FirstWrongRow.{row-found, row-unique}
+use Rattle.demands.specs.Settled.{OfInput, Settled, count-cases, count-given, count-passes, equal-cases, vector-long}
+
+-- rows of three numbers each
+pub rows-of-long : (k : ℕ) (xs : List ℕ) → length xs ≡ 3 * k → length (rowsOf xs) ≡ k
+unfolding rowsOf
+rows-of-long zero [] e = refl
+rows-of-long zero (a ∷ xs) e = absurd (omega arith)
+rows-of-long (suc k) [] e = absurd (omega arith)
+rows-of-long (suc k) (a ∷ []) e = absurd (omega arith)
+rows-of-long (suc k) (a ∷ b ∷ []) e = absurd (omega arith)
+rows-of-long (suc k) (a ∷ b ∷ c ∷ xs) e = ap suc (rows-of-long k xs (omega arith))
+
+row-of-input : (n : ℕ) (rs : List Row) (k t : ℕ) → RowWrong n rs k t → OfInput k
+unfolding numberOf
+row-of-input n rs k t (h, parent-wrong a) = (Parent, refl, omega arith)
+row-of-input n rs k t (h, child-not-below a b) = (Child, refl, omega arith)
+row-of-input n rs k t (h, child-named a b c d) = (NamedBefore, refl, omega arith)
+
+-- "Table: 1, 2 (length not 3(n-1)), rows upward with 5, 6, 7 in each"
+pub settled-from-table : (n : ℕ) (xs : List ℕ) → Settled (TableRefused n xs) n (fromTable n xs)
+unfolding fromTable refuseFault numberOf
+settled-from-table n xs = record {
+  of-input = kinds;
+  given = refused-so;
+  total = go (count-cases n) (equal-cases (length xs) (3 * (n - 1))) (row-found n (rowsOf xs));
+}
+  where
+    last : Made
+    last = made (vectorOf (tableTree n (rowsOf xs)))
+
+    whole : Made
+    whole = refuseCount n (refuseLength (3 * (n - 1)) (length xs) (refuseFault (tableFault n (rowsOf xs)) last))
+
+    kinds : (k t : ℕ) → TableRefused n xs k t → OfInput k
+    kinds k t (table-1 c) = (LeafCount, refl, omega arith)
+    kinds k t (table-2 c l) = (InputLength, refl, omega arith)
+    kinds k t (table-row c l f) = row-of-input n (rowsOf xs) k t (f .0)
+
+    row-given : (k t : ℕ) → FirstRow n (rowsOf xs) k t → tableFault n (rowsOf xs) ≡ some (k, t)
+    row-given k t h = at (row-found n (rowsOf xs))
+      where
+        at : ((u : ℕ) × (l : ℕ) × (tableFault n (rowsOf xs) ≡ some (l, u)) × FirstRow n (rowsOf xs) l u)
+            ⊎ ((tableFault n (rowsOf xs) ≡ none) × ((j l : ℕ) → RowWrong n (rowsOf xs) l j → ⊥)) → tableFault n (rowsOf xs) ≡ some (k, t)
+        at (inl f) =
+            let e = row-unique n (rowsOf xs) (f .1) (f .0) k t (f .3) h in
+            f .2 ∙ ap₂ (λ (a b : ℕ). some (a, b)) (e .0) (e .1)
+        at (inr f) = absurd (f .1 t k (h .0))
+
+    refused-so : (k t : ℕ) → TableRefused n xs k t → whole ≡ refuses k t
+    refused-so k t (table-1 c) = count-given n _ c
+    refused-so k t (table-2 c l) = count-passes n _ c ∙ wrong-length (3 * (n - 1)) (length xs) _ l
+    refused-so k t (table-row c l f) =
+        count-passes n _ c ∙ right-length (3 * (n - 1)) (length xs) _ l ∙ ap (λ o. refuseFault o last) (row-given k t f)
+
+    go : CountWrong n ⊎ CountRight n → (length xs ≢ 3 * (n - 1)) ⊎ (length xs ≡ 3 * (n - 1))
+        → ((t : ℕ) × (k : ℕ) × (tableFault n (rowsOf xs) ≡ some (k, t)) × FirstRow n (rowsOf xs) k t)
+        ⊎ ((tableFault n (rowsOf xs) ≡ none) × ((j l : ℕ) → RowWrong n (rowsOf xs) l j → ⊥))
+        → ((k : ℕ) × (t : ℕ) × TableRefused n xs k t) ⊎ ((ys : List ℕ) × (whole ≡ made ys) × (length ys ≡ n))
+    go (inl c) l f = inl (1, 0, table-1 c)
+    go (inr c) (inl l) f = inl (2, 3 * (n - 1), table-2 c l)
+    go (inr c) (inr l) (inl f) = inl (f .1, f .0, table-row c l (f .3))
+    go (inr c) (inr l) (inr f) = inr (
+      vectorOf (tableTree n (rowsOf xs)),
+      count-passes n _ c ∙ right-length (3 * (n - 1)) (length xs) _ l ∙ ap (λ o. refuseFault o last) (f .0),
+      vector-long (tableTree n (rowsOf xs))
+          ∙ size-below n (tableTree n (rowsOf xs)) (rows-make-a-tree n (rowsOf xs) (f .0) (rows-of-long (n - 1) xs l) (c .0)),
+    )

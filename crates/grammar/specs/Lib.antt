@@ -1,0 +1,14 @@
+pub mod Reading
+pub mod Sound
+pub mod Complete
+pub mod Labels
+pub mod Pairs
+pub mod Sums
+pub mod Faults
+pub mod Decimal
+pub mod Written
+pub mod Length
+pub mod Nodes
+pub mod Closed
+pub mod Bounds
+pub mod Unique

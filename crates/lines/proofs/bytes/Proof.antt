@@ -1,0 +1,19 @@
+use native.Mathlib.Omega.{arith}
+use borrow.Author.Needs.{needs}
+use Rattle.io.proofs.Counting.{counts}
+use Rattle.lines.proofs.bytes.Statement.{statement}
+use Rattle.lines.proofs.bytes.Tie as tie
+use Rattle.lines.proofs.bytes.Reads as reads
+use Rattle.lines.proofs.bytes.Lts as lts
+use Rattle.lines.proofs.written.Reads as written-reads
+
+-- src/lib.rt:41:5
+written-requires : tie.Need-written-requires
+written-requires c κs = search needs
+
+-- src/lib.rt:38:1
+returns : tie.Need-returns
+returns c = counts _ _ (c .written .ensures)
+
+pub bytes-spec : {M : Type 1} → statement M
+bytes-spec = tie.close (tie.spec written-requires returns)

@@ -1,0 +1,7 @@
+pub mod Bytes
+pub mod Numbers
+pub mod Took
+pub mod Whole
+pub mod Writing
+pub mod Marking
+pub mod Numbering

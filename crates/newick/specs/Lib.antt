@@ -1,0 +1,5 @@
+pub mod Lent
+pub mod Marks
+pub mod Numbered
+pub mod Output
+pub mod Recorded

@@ -1,0 +1,66 @@
+// The samples of the rules and their refused inputs, a line for each call.
+
+fn sample(v: &[u16]) {
+    lines::check(v);
+    lines::there_and_back(v);
+}
+
+fn samples() {
+    sample(&[0]);
+    sample(&[0, 0]);
+    sample(&[0, 0, 2]);
+    sample(&[0, 0, 1, 2]);
+    sample(&[0, 0, 1, 4]);
+    sample(&[0, 0, 2, 1]);
+    sample(&[0, 0, 1, 3]);
+    sample(&[0, 0, 2, 2]);
+}
+
+// A vector is refused alike by every call that begins from it; p is the identity of its length.
+fn refused_vector(v: &[u16], p: &[u16]) {
+    let mut numbers = [0u16; 3069];
+    let mut bytes = [0u8; 6056];
+    lines::check(v);
+    lines::to_table(v, &mut numbers);
+    lines::to_newick(v, &mut bytes);
+    lines::pack(v, &mut bytes);
+    lines::shuffle(v);
+    lines::relabel(v, p);
+}
+
+fn identity(p: &mut [u16]) {
+    let mut k: usize = 0;
+    while k < p.len() {
+        p[k] = (k % 65536) as u16;
+        k += 1;
+    }
+}
+
+fn refused_vectors() {
+    let zeros = [0u16; 1025];
+    let mut numbers = [0u16; 1025];
+    identity(&mut numbers);
+    refused_vector(&[0, 1], &[0, 1]);
+    refused_vector(&[0, 0, 3], &[0, 1, 2]);
+    refused_vector(&[], &[]);
+    refused_vector(&zeros, &numbers);
+}
+
+fn refused_texts() {
+    lines::from_newick(b"");
+    lines::from_newick(b"01;");
+    lines::from_newick(b"(0,1)");
+    lines::from_newick(b"(0,1,2);");
+    lines::from_newick(b"12345;");
+    lines::from_newick(b"(0,0);");
+    lines::from_newick(b"5;");
+}
+
+fn main() {
+    samples();
+    lines::from_table(4, &[1, 0, 4, 3, 2, 5, 5, 4, 6]);
+    lines::relabel(&[0, 0, 1, 4], &[1, 0, 2, 3]);
+    refused_vectors();
+    refused_texts();
+    lines::unpack(&[0x00, 0x41]);
+}
