@@ -2,3 +2,4 @@ pub mod RowAt
 pub mod Verdict
 pub mod Reading
 pub mod Told
+pub mod Children

@@ -1,11 +1,14 @@
 // The rows of a table that is read, checked and added one by one.
 ghost use mathlib.Core.Path.{_≡_};
-ghost use mathlib.Core.List.{_++_};
+ghost use mathlib.Core.List.{List, _++_};
 ghost use Prim.Native.Nat.{_+_, _-_, _*_, _≤_, _<_};
 ghost use lib.ListN.{length, drop};
 ghost use Rattle.reading.specs.Verdict.{flag, verdict};
 ghost use Rattle.reading.specs.Reading.{Reads};
 ghost use Rattle.reading.specs.Told.{HasRead, Told};
+ghost use Rattle.reading.specs.Children.{Children, Added};
+ghost use Rattle.rules.specs.Order.{vectorOf};
+ghost use Rattle.rules.specs.Table.{Row, tableTree};
 
 // The number of the refusal of a row, or 0, and which row it is.
 pub struct Found {
@@ -92,4 +95,44 @@ pub fn table_vector(n: usize, rows: &[u16], vector: &mut [u16]) -> Found
         order::vector_of(n, &up, &mut waits, &small, vector);
     }
     found
+}
+
+// Adds the rows of n leaves with these children, which are known to be accepted.
+fn add_children(
+    n: usize,
+    left: &[u16],
+    right: &[u16],
+    names: &mut [u16],
+    larger: &mut [u16],
+    small: &mut [u16],
+    up: &mut [u16],
+    waits: &mut [u8],
+)
+    requires { ⌜ 1 ≤ n ⌝ }
+    requires { ⌜ Added n (now left) (now right) 0 (now names) (now larger) (now small) (now up) (now waits) ⌝ }
+    ensures { λ _. ⌜ Added n (now (left .entry)) (now (right .entry)) (n - 1) (now (names .exit)) (now (larger .exit)) (now (small .exit)) (now (up .exit)) (now (waits .exit)) ⌝ }
+{
+    let last = n - 1;
+    let mut t: usize = 0;
+    while t < last {
+        let l = wide(left[t]);
+        let r = wide(right[t]);
+        order::add_pair(names, larger, small, up, waits, n, t, l, r);
+        t += 1;
+    }
+}
+
+// The vector of the tree whose rows have these children, at the front of vector.
+pub fn children_vector(n: usize, left: &[u16], right: &[u16], vector: &mut [u16])
+    requires { ⌜ (1 ≤ n) × (n ≤ 1024) × (n - 1 ≤ length (now left)) × (n - 1 ≤ length (now right)) × (n ≤ length (now vector)) ⌝ }
+    requires { ⌜ ((rs : List Row) × Children n (now left) (now right) rs) ⌝ }
+    ensures { λ _. ⌜ ((rs : List Row) → Children n (now (left .entry)) (now (right .entry)) rs → now (vector .exit) ≡ vectorOf (tableTree n rs) ++ drop n (now (vector .entry))) ⌝ }
+{
+    let mut names = [0u16; 1024];
+    let mut larger = [0u16; 1024];
+    let mut small = [0u16; 1024];
+    let mut up = [0u16; 1024];
+    let mut waits = [0u8; 1024];
+    add_children(n, left, right, &mut names, &mut larger, &mut small, &mut up, &mut waits);
+    order::vector_of(n, &up, &mut waits, &small, vector);
 }
