@@ -1,0 +1,130 @@
+-- The rows of a vector held by their children, and the same rows with renamed leaves.
+-- Main definitions: vectorRows, RowsOf, Renamed, NewLabels. Main results: rows-of, rows-tree, rows-tabled, rows-renamed, new-labels.
+use mathlib.Core.List.{List, [], _∷_, _++_, map}
+use mathlib.Core.Option.{none}
+use mathlib.Core.Path.{_≡_, refl, sym, ap, _∙_, subst}
+use Prim.Native.Nat.{ℕ, zero, suc, _+_, _-_, _≤_, _<_}
+use native.Mathlib.Omega.{arith}
+use lib.ListN.{length, getD, take}
+use lib.Seq.{take-at}
+use Rattle.rules.specs.Vector.{Valid, entry}
+use Rattle.rules.specs.Tree.{Tree, leaf, treeOf, grown, LeavesBelow}
+use Rattle.rules.specs.Table.{Row, rowsFrom, tableFault, tableTree}
+use Rattle.rules.specs.Shuffle.{renamed, permutationFault, newOf}
+use Rattle.merging.specs.Insertion.{pairs}
+use Rattle.merging.specs.Named.{rising}
+use Rattle.building.specs.Built.{valid-bounded}
+use Rattle.laws.specs.TreeOf.{tree-by-pairs, tree-leaves}
+use Rattle.shuffle_laws.specs.Rows.{Turned, turned-grown, renamedRows, renamed-rows}
+use Rattle.shuffle_laws.specs.Taken.{new-no-fault}
+use Rattle.table.specs.Rows.{first, second, rows-length, parent-at}
+use Rattle.table.specs.Children.{pairs-count}
+use Rattle.table.specs.Accepted.{pairs-accepted}
+use Rattle.table.specs.Grown.{pairs-tree}
+use Rattle.reading.specs.Children.{Children}
+use Rattle.shuffle.specs.Held.{heldRows, heldTree, Tabled, held-is, held-renamed, getD-held, length-held}
+use Rattle.shuffle.specs.Renames.{renamedTo, renamed-at}
+
+-- the rows of a vector's table
+unfoldable pub vectorRows : List ℕ → List Row
+vectorRows v = rowsFrom (length v) (λ c. c) (pairs v)
+
+-- left and right hold the children of these rows
+pub record RowsOf (v left right : List ℕ) : Type 0 where
+  pub valid : Valid v
+  pub lefts : length v - 1 ≤ length left
+  pub rights : length v - 1 ≤ length right
+  pub held : heldRows (length v) left right ≡ vectorRows v
+
+rows-count : (v : List ℕ) → Valid v → length (vectorRows v) ≡ length v - 1
+unfolding vectorRows
+rows-count v ok = rows-length (length v) (λ c. c) (pairs v) ∙ pairs-count v ok
+
+-- an element of a list that begins with the children of rows
+child-at : (f : Row → ℕ) (rs : List Row) (rest : List ℕ) (t : ℕ) → t < length rs → getD (map f rs ++ rest) t 0 ≡ f (getD rs t (0, 0, 0))
+child-at f [] rest t h = absurd (omega arith)
+child-at f (r ∷ rs) rest zero h = refl
+child-at f (r ∷ rs) rest (suc t) h = child-at f rs rest t (omega arith)
+
+-- what the code that writes the rows of a vector leaves
+pub rows-of : (v left right rest rest′ : List ℕ) → Valid v → length left ≡ 1024 → length right ≡ 1024 → length v ≤ 1024
+    → left ≡ map first (rowsFrom (length v) (λ c. c) (pairs v)) ++ rest → right ≡ map second (rowsFrom (length v) (λ c. c) (pairs v)) ++ rest′ → RowsOf v left right
+unfolding vectorRows
+rows-of v left right rest rest′ ok a b u p q = record {
+  valid = ok;
+  lefts = omega arith;
+  rights = omega arith;
+  held = held-is (length v) left right (vectorRows v) (rows-count v ok) (λ t h. each t h);
+}
+  where
+    each : (t : ℕ) → t < length v - 1 → getD (vectorRows v) t (0, 0, 0) ≡ (getD left t 0, getD right t 0, length v + t)
+    each t h =
+        let c = rows-count v ok in
+        let l : t < length (vectorRows v) = omega arith in
+        let k = pairs-count v ok in
+        λ i. (
+          sym (ap (λ (xs : List ℕ). getD xs t 0) p ∙ child-at first (vectorRows v) rest t l) i,
+          sym (ap (λ (xs : List ℕ). getD xs t 0) q ∙ child-at second (vectorRows v) rest′ t l) i,
+          parent-at (length v) (λ c. c) (pairs v) t (omega arith) i,
+        )
+
+-- the tree of these rows is the vector's
+pub rows-tree : {v left right : List ℕ} → RowsOf v left right → heldTree (length v) left right ≡ treeOf v
+unfolding vectorRows
+rows-tree {v} R = ap (tableTree (length v)) (R .held) ∙ pairs-tree v (R .valid) ∙ sym (tree-by-pairs v (R .valid))
+
+rows-fine : {v left right : List ℕ} → RowsOf v left right → tableFault (length v) (heldRows (length v) left right) ≡ none
+unfolding vectorRows
+rows-fine {v} R = ap (tableFault (length v)) (R .held) ∙ pairs-accepted v (R .valid)
+
+-- so that Queue Shuffle can go through them
+pub rows-tabled : {v left right : List ℕ} → RowsOf v left right → Tabled (length v) left right
+unfolding pairs
+rows-tabled {v} R = record {
+  accepted = rows-fine R;
+  leaves = subst (LeavesBelow (length v)) (sym (rows-tree R)) (tree-leaves v (R .valid));
+  turned = subst Turned (sym (rows-tree R ∙ tree-by-pairs v (R .valid)))
+    (turned-grown (pairs v) (rising (entry v) (length v) (valid-bounded v (R .valid))) 0);
+}
+
+-- the rows with renamed leaves
+pub record Renamed (v p left right : List ℕ) : Type 0 where
+  pub rows : Children (length v) left right (renamedRows (length v) p (vectorRows v))
+  pub tree : tableTree (length v) (renamedRows (length v) p (vectorRows v)) ≡ renamed p (treeOf v)
+
+pub rows-renamed : {v left right : List ℕ} (p left′ right′ : List ℕ) → RowsOf v left right → length p ≡ length v → permutationFault (length v) 0 [] p ≡ none
+    → left′ ≡ renamedTo (length v) p (length v - 1) left → right′ ≡ renamedTo (length v) p (length v - 1) right → Renamed v p left′ right′
+rows-renamed {v} {left} {right} p left′ right′ R l f a b =
+    let n = length v in
+    let w = renamed-rows n p (heldRows n left right) (R .valid .some-leaf) l f (rows-fine R) (length-held n left right) in
+    let same : heldRows n left′ right′ ≡ renamedRows n p (heldRows n left right) = held-renamed n p left right left′ right′
+      (λ t h. ap (λ (xs : List ℕ). getD xs t 0) a ∙ renamed-at n p (n - 1) left t (R .lefts) h)
+      (λ t h. ap (λ (xs : List ℕ). getD xs t 0) b ∙ renamed-at n p (n - 1) right t (R .rights) h) in
+    let e : renamedRows n p (heldRows n left right) ≡ renamedRows n p (vectorRows v) = ap (renamedRows n p) (R .held) in
+    record {
+      rows = record {
+        count = ap length (sym e) ∙ w .1;
+        accepted = ap (tableFault n) (sym e) ∙ w .0;
+        each = λ t h. ap (λ (rs : List Row). getD rs t (0, 0, 0)) (sym (same ∙ e)) ∙ getD-held n left′ right′ t (0, 0, 0) h;
+      };
+      tree = ap (tableTree n) (sym e) ∙ w .2 ∙ ap (renamed p) (rows-tree R);
+    }
+
+pub some-renamed : {v p left right : List ℕ} → Renamed v p left right → (rs : List Row) × Children (length v) left right rs
+some-renamed {v} {p} R = (renamedRows (length v) p (vectorRows v), R .rows)
+
+-- What Queue Shuffle leaves at the front of the new labels.
+pub record NewLabels (v new : List ℕ) : Type 0 where
+  pub labels : take (length v) new ≡ newOf (treeOf v)
+  pub count : length (take (length v) new) ≡ length v
+  pub no-fault : permutationFault (length v) 0 [] (take (length v) new) ≡ none
+
+pub new-labels : {v left right : List ℕ} (new rest : List ℕ) → RowsOf v left right → new ≡ newOf (heldTree (length v) left right) ++ rest → NewLabels v new
+new-labels {v} {left} {right} new rest R e =
+    let w = new-no-fault (tree-leaves v (R .valid)) in
+    let t : take (length v) new ≡ newOf (treeOf v) =
+      ap (take (length v)) (e ∙ ap (λ (u : Tree). newOf u ++ rest) (rows-tree R)) ∙ take-at (newOf (treeOf v)) rest (length v) (w .0) in
+    record { labels = t; count = ap length t ∙ w .0; no-fault = ap (permutationFault (length v) 0 []) t ∙ w .1 }
+
+pub new-written : {v left right : List ℕ} (new rest : List ℕ) → RowsOf v left right → new ≡ newOf (heldTree (length v) left right) ++ rest → new ≡ newOf (treeOf v) ++ rest
+new-written {v} new rest R e = e ∙ ap (λ (u : Tree). newOf u ++ rest) (rows-tree R)
