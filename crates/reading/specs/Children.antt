@@ -37,10 +37,10 @@ row-ok n rs t e h =
     let l : length (take t rs) ≡ t = omega (arith, length-take t rs) in
     let z : 0 + length (take t rs) ≡ t = omega arith in
     let q : rowFault n t (taken (take t rs)) (getD rs t (0, 0, 0) ∷ drop (suc t) rs) ≡ none =
-      ap (λ (qs : List Row). rowFault n t (taken (take t rs)) qs) (sym (drop-cons rs t (0, 0, 0) h))
-      ∙ ap (λ (k : ℕ). rowFault n k (taken (take t rs)) (drop t rs)) (sym z)
-      ∙ sym (fault-append n 0 (λ c. false) (take t rs) (drop t rs) (first-rows n 0 (λ c. false) rs t e))
-      ∙ ap (rowFault n 0 (λ c. false)) (take-append-drop t rs) ∙ e in
+    ap (λ (qs : List Row). rowFault n t (taken (take t rs)) qs) (sym (drop-cons rs t (0, 0, 0) h))
+    ∙ ap (λ (k : ℕ). rowFault n k (taken (take t rs)) (drop t rs)) (sym z)
+    ∙ sym (fault-append n 0 (λ c. false) (take t rs) (drop t rs) (first-rows n 0 (λ c. false) rs t e))
+    ∙ ap (rowFault n 0 (λ c. false)) (take-append-drop t rs) ∙ e in
     fault-none n t (taken (take t rs)) (getD rs t (0, 0, 0)) (drop (suc t) rs) q .0
 
 -- t rows are added, whatever rows have these children
@@ -91,12 +91,12 @@ added-next {n} {left} {right} {t} {l} {r} {names} {larger} {small} {up} {waits} 
   right-room = A .right-room;
   some-rows = A .some-rows;
   built = λ rs C.
-    let k = C .count in
-    let ads : Adds n (take t rs) t l r names larger small up waits = rw (p, q) (adds A h rs C) in
-    let row : getD rs t (0, 0, 0) ≡ (l, r, n + t) = C .each t h ∙ (λ i. (sym p i, sym q i, n + t)) in
-    let more : take t rs ++ ((l, r, n + t) ∷ []) ≡ take (t + 1) rs =
+      let k = C .count in
+      let ads : Adds n (take t rs) t l r names larger small up waits = rw (p, q) (adds A h rs C) in
+      let row : getD rs t (0, 0, 0) ≡ (l, r, n + t) = C .each t h ∙ (λ i. (sym p i, sym q i, n + t)) in
+      let more : take t rs ++ ((l, r, n + t) ∷ []) ≡ take (t + 1) rs =
       ap (λ (x : Row). take t rs ++ (x ∷ [])) (sym row) ∙ sym (take-suc rs t (0, 0, 0) (omega arith)) ∙ ap (λ (j : ℕ). take j rs) (sym (add-one t)) in
-    subst (λ (qs : List Row). Built n qs a b c d e) more (f (take t rs) ads);
+      subst (λ (qs : List Row). Built n qs a b c d e) more (f (take t rs) ads);
 }
 
 -- all rows are added: the arrays draw the tree

@@ -48,6 +48,7 @@ flag-set named l c h = go (eqb c l) refl
     after-or : (b : Bool) → b || true ≡ true
     after-or true = refl
     after-or false = refl
+
     go : (b : Bool) → eqb c l ≡ b → not (eqb (getD (set named l 1) c 0) 0) ≡ not (eqb (getD named c 0) 0) || b
     go true q = rw (eqb-true c l q, getD-set-same named l 1 0 h) (sym (after-or (not (eqb (getD named l 0) 0))))
     go false q = rw (getD-set-other named l c 1 0 (eqb-false c l q)) (sym (or-false (not (eqb (getD named c 0) 0))))
@@ -116,7 +117,7 @@ reads-next {n} {xs} {t} {l} {r} {p} {named} {names′ = a} {larger′ = b} {smal
     let ok = verdict-row n t named₀ (l, r, p) (sym (verdict-taken l r p R) ∙ v) in
     let row : rowAt xs t ≡ (l, r, n + t) = row-of n xs t l r p A ∙ ap (λ (q : ℕ). (l, r, q)) (ok .parent) in
     let more : take (t + 1) (rowsOf xs) ≡ take t (rowsOf xs) ++ ((l, r, n + t) ∷ []) =
-      ap (λ (k : ℕ). take k (rowsOf xs)) (add-one t) ∙ rows-take (n - 1) xs t (R .count) (A .inside) ∙ ap (λ (q : Row). take t (rowsOf xs) ++ (q ∷ [])) row in
+    ap (λ (k : ℕ). take k (rowsOf xs)) (add-one t) ∙ rows-take (n - 1) xs t (R .count) (A .inside) ∙ ap (λ (q : Row). take t (rowsOf xs) ++ (q ∷ [])) row in
     let ok′ : RowOk n t named₀ (l, r, n + t) = subst (λ (q : ℕ). RowOk n t named₀ (l, r, q)) (ok .parent) ok in
     let k = rows-read n xs t (R .count) (R .so-far) in
     let few = R .few in
@@ -132,15 +133,17 @@ reads-next {n} {xs} {t} {l} {r} {p} {named} {names′ = a} {larger′ = b} {smal
       room = length-set (set named l 1) r 1 ∙ length-set named l 1 ∙ R .room;
       flags = λ c. flagged few inside below-l below-r room c ∙ ap (λ (x : Bool). x || eqb c l || eqb c r) (R .flags c) ∙ also c ∙ ap (λ (rs : List Row). taken rs c) (sym more);
       clean = ap (rowFault n 0 (λ c. false)) more ∙ fault-append n 0 (λ c. false) (take t (rowsOf xs)) ((l, r, n + t) ∷ []) (R .clean)
-        ∙ ap (λ (j : ℕ). rowFault n j named₀ ((l, r, n + t) ∷ [])) (ap (λ (j : ℕ). 0 + j) k ∙ zero-more t) ∙ fault-step n t named₀ (l, r, n + t) [] ok′ ∙ unfold rowFault in refl;
+          ∙ ap (λ (j : ℕ). rowFault n j named₀ ((l, r, n + t) ∷ [])) (ap (λ (j : ℕ). 0 + j) k ∙ zero-more t) ∙ fault-step n t named₀ (l, r, n + t) [] ok′ ∙ unfold rowFault in refl;
       built = subst (λ (rs : List Row). Built n rs a b c d e) (sym more) B;
     }
   where
     zero-more : (j : ℕ) → 0 + j ≡ j
     zero-more j = omega arith
+
     flagged : n ≤ 1024 → t < n - 1 → l < n + t → r < n + t → length named ≡ 2048 → (c : ℕ) → flag (set (set named l 1) r 1) c ≡ flag named c || eqb c l || eqb c r
     flagged few inside bl br room c =
         flag-set (set named l 1) r c (omega (arith, length-set named l 1)) ∙ ap (λ (x : Bool). x || eqb c r) (flag-set named l c (omega arith))
+
     also : (c : ℕ) → taken (take t (rowsOf xs)) c || eqb c l || eqb c r ≡ taken (take t (rowsOf xs) ++ ((l, r, n + t) ∷ [])) c
     also c = unfold namedAlso in sym (ap (λ (f : ℕ → Bool). f c) (named-snoc (λ c. false) (take t (rowsOf xs)) (l, r, n + t)))
 
@@ -155,7 +158,7 @@ reads-fault {n} {xs} {t} {l} {r} {p} {named} R A d =
     ap (rowFault n 0 (λ c. false)) (sym (take-append-drop t (rowsOf xs)))
     ∙ fault-append n 0 (λ c. false) (take t (rowsOf xs)) (drop t (rowsOf xs)) (R .clean)
     ∙ ap₂ (λ (j : ℕ) (rs : List Row). rowFault n j named₀ rs) (ap (λ (j : ℕ). 0 + j) k ∙ zero-more t)
-      (rows-drop (n - 1) xs t (R .count) (A .inside) ∙ ap (λ (q : Row). q ∷ drop (suc t) (rowsOf xs)) (row-of n xs t l r p A))
+    (rows-drop (n - 1) xs t (R .count) (A .inside) ∙ ap (λ (q : Row). q ∷ drop (suc t) (rowsOf xs)) (row-of n xs t l r p A))
     ∙ verdict-fault n t named₀ (l, r, p) (drop (suc t) (rowsOf xs)) (λ z. d (e ∙ z))
     ∙ ap (λ (j : ℕ). some (j, t)) (sym e)
   where

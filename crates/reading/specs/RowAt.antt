@@ -30,9 +30,11 @@ row-next x y z xs t =
     let a : 3 * suc t ≡ 3 + 3 * t = omega arith in
     let b : 3 * suc t + 1 ≡ 3 + (3 * t + 1) = omega arith in
     let c : 3 * suc t + 2 ≡ 3 + (3 * t + 2) = omega arith in
-    λ i. ((ap (λ k. getD (x ∷ y ∷ z ∷ xs) k 0) a ∙ three-more x y z xs (3 * t)) i,
+    λ i. (
+      (ap (λ k. getD (x ∷ y ∷ z ∷ xs) k 0) a ∙ three-more x y z xs (3 * t)) i,
       (ap (λ k. getD (x ∷ y ∷ z ∷ xs) k 0) b ∙ three-more x y z xs (3 * t + 1)) i,
-      (ap (λ k. getD (x ∷ y ∷ z ∷ xs) k 0) c ∙ three-more x y z xs (3 * t + 2)) i)
+      (ap (λ k. getD (x ∷ y ∷ z ∷ xs) k 0) c ∙ three-more x y z xs (3 * t + 2)) i,
+    )
 
 -- row t is the one that the numbers have at 3t
 pub row-is : (k : ℕ) (xs : List ℕ) (t : ℕ) → length xs ≡ 3 * k → t < k → getD (rowsOf xs) t (0, 0, 0) ≡ rowAt xs t

@@ -32,7 +32,7 @@ pub read-fault : {n : ℕ} {xs : List ℕ} {t l r p x : ℕ} {named names larger
     → Row-at n xs t l r p → x ≡ verdict (flag named) (n + t) (l, r, p) → x ≢ 0 → HasRead n xs names larger small up waits (record { number = x; row = t })
 read-fault {n} {xs} {t} {l} {r} {p} {named = named} R A e d = record {
   found = λ z. reads-fault R A (λ q. d (e ∙ q))
-    ∙ ap (λ (k : ℕ). some (k, t)) (sym (verdict-number (flag named) (n + t) (l, r, p) (λ q. d (e ∙ q))) ∙ ap rowNumber (sym e));
+      ∙ ap (λ (k : ℕ). some (k, t)) (sym (verdict-number (flag named) (n + t) (l, r, p) (λ q. d (e ∙ q))) ∙ ap rowNumber (sym e));
   all = λ z. absurd (d z);
 }
 

@@ -68,6 +68,7 @@ verdict-cong named named′ p r h = go (ltb (r .0) p) (ltb (r .1) p) refl refl
     either : (a b c : Bool) → firstOf a true b ≡ firstOf a true c
     either true b c = refl
     either false b c = refl
+
     go : (a b : Bool) → ltb (r .0) p ≡ a → ltb (r .1) p ≡ b
         → firstOf (not (eqb (r .2) p)) (not (ltb (r .0) p && ltb (r .1) p)) (named (r .0) || named (r .1) || eqb (r .0) (r .1))
         ≡ firstOf (not (eqb (r .2) p)) (not (ltb (r .0) p && ltb (r .1) p)) (named′ (r .0) || named′ (r .1) || eqb (r .0) (r .1))

@@ -90,7 +90,16 @@ pub fn table_vector(n: usize, rows: &[u16], vector: &mut [u16]) -> Found
     let mut small = [0u16; 1024];
     let mut up = [0u16; 1024];
     let mut waits = [0u8; 1024];
-    let found = read_rows(n, rows, &mut named, &mut names, &mut larger, &mut small, &mut up, &mut waits);
+    let found = read_rows(
+        n,
+        rows,
+        &mut named,
+        &mut names,
+        &mut larger,
+        &mut small,
+        &mut up,
+        &mut waits,
+    );
     if found.number == 0 {
         order::vector_of(n, &up, &mut waits, &small, vector);
     }
@@ -133,6 +142,15 @@ pub fn children_vector(n: usize, left: &[u16], right: &[u16], vector: &mut [u16]
     let mut small = [0u16; 1024];
     let mut up = [0u16; 1024];
     let mut waits = [0u8; 1024];
-    add_children(n, left, right, &mut names, &mut larger, &mut small, &mut up, &mut waits);
+    add_children(
+        n,
+        left,
+        right,
+        &mut names,
+        &mut larger,
+        &mut small,
+        &mut up,
+        &mut waits,
+    );
     order::vector_of(n, &up, &mut waits, &small, vector);
 }

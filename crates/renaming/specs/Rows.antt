@@ -84,7 +84,7 @@ rows-tabled {v} R = record {
   accepted = rows-fine R;
   leaves = subst (LeavesBelow (length v)) (sym (rows-tree R)) (tree-leaves v (R .valid));
   turned = subst Turned (sym (rows-tree R ∙ tree-by-pairs v (R .valid)))
-    (turned-grown (pairs v) (rising (entry v) (length v) (valid-bounded v (R .valid))) 0);
+      (turned-grown (pairs v) (rising (entry v) (length v) (valid-bounded v (R .valid))) 0);
 }
 
 -- the rows with renamed leaves
@@ -98,8 +98,8 @@ rows-renamed {v} {left} {right} p left′ right′ R l f a b =
     let n = length v in
     let w = renamed-rows n p (heldRows n left right) (R .valid .some-leaf) l f (rows-fine R) (length-held n left right) in
     let same : heldRows n left′ right′ ≡ renamedRows n p (heldRows n left right) = held-renamed n p left right left′ right′
-      (λ t h. ap (λ (xs : List ℕ). getD xs t 0) a ∙ renamed-at n p (n - 1) left t (R .lefts) h)
-      (λ t h. ap (λ (xs : List ℕ). getD xs t 0) b ∙ renamed-at n p (n - 1) right t (R .rights) h) in
+    (λ t h. ap (λ (xs : List ℕ). getD xs t 0) a ∙ renamed-at n p (n - 1) left t (R .lefts) h)
+    (λ t h. ap (λ (xs : List ℕ). getD xs t 0) b ∙ renamed-at n p (n - 1) right t (R .rights) h) in
     let e : renamedRows n p (heldRows n left right) ≡ renamedRows n p (vectorRows v) = ap (renamedRows n p) (R .held) in
     record {
       rows = record {
@@ -123,7 +123,7 @@ pub new-labels : {v left right : List ℕ} (new rest : List ℕ) → RowsOf v le
 new-labels {v} {left} {right} new rest R e =
     let w = new-no-fault (tree-leaves v (R .valid)) in
     let t : take (length v) new ≡ newOf (treeOf v) =
-      ap (take (length v)) (e ∙ ap (λ (u : Tree). newOf u ++ rest) (rows-tree R)) ∙ take-at (newOf (treeOf v)) rest (length v) (w .0) in
+    ap (take (length v)) (e ∙ ap (λ (u : Tree). newOf u ++ rest) (rows-tree R)) ∙ take-at (newOf (treeOf v)) rest (length v) (w .0) in
     record { labels = t; count = ap length t ∙ w .0; no-fault = ap (permutationFault (length v) 0 []) t ∙ w .1 }
 
 pub new-written : {v left right : List ℕ} (new rest : List ℕ) → RowsOf v left right → new ≡ newOf (heldTree (length v) left right) ++ rest → new ≡ newOf (treeOf v) ++ rest

@@ -8,7 +8,8 @@ ghost use mathlib.Core.Path.{_≡_};
 ghost use lib.ListN.{length};
 ghost use Rattle.rules.specs.Answer.{refused, numberOf, reads, answer, after};
 ghost use Rattle.rules.specs.Calls as calls;
-ghost use Rattle.rules.specs.Calls.{toTable, fromTable};
+ghost use Rattle.rules.specs.Calls.{toTable, fromTable, shuffleNew, shuffleVector};
+ghost use Prim.Native.Nat.{min};
 ghost use Rattle.reading.specs.Verdict.{rowNumber};
 
 // Whether v is a vector: 1, 4.
@@ -133,6 +134,53 @@ pub fn unpack(s: &[u8], out: &mut [u16]) -> Answer
                 return refuse(Kind::Room, n);
             }
             vector::copy_out(&vector, n, out);
+            Answer::Done(n)
+        }
+    }
+}
+
+// Queue Shuffle: the permutation and the vector of the relabelled tree: 1, 4, 3. The room is that of the shorter buffer.
+pub fn shuffle(v: &[u16], new: &mut [u16], out: &mut [u16]) -> Answer
+    ensures { λ r. ⌜ reads r ≡ answer (shuffleNew (now (v .entry))) (min (length (now (new .entry))) (length (now (out .entry)))) ⌝ }
+    ensures { λ r. ⌜ now (new .exit) ≡ after (shuffleNew (now (v .entry))) (min (length (now (new .entry))) (length (now (out .entry)))) (now (new .entry)) ⌝ }
+    ensures { λ r. ⌜ now (out .exit) ≡ after (shuffleVector (now (v .entry))) (min (length (now (new .entry))) (length (now (out .entry)))) (now (out .entry)) ⌝ }
+{
+    match check(v) {
+        Answer::Refused(why) => Answer::Refused(why),
+        Answer::Done(_) => {
+            let n = v.len();
+            if new.len() < n {
+                return refuse(Kind::Room, n);
+            }
+            if out.len() < n {
+                return refuse(Kind::Room, n);
+            }
+            renaming::shuffled(v, new, out);
+            Answer::Done(n)
+        }
+    }
+}
+
+// The vector of the tree with leaf x relabelled p(x): 1, 4, 2, 11, 3.
+pub fn relabel(v: &[u16], p: &[u16], out: &mut [u16]) -> Answer
+    ensures { λ r. ⌜ reads r ≡ answer (calls.relabel (now (v .entry)) (now (p .entry))) (length (now (out .entry))) ⌝ }
+    ensures { λ r. ⌜ now (out .exit) ≡ after (calls.relabel (now (v .entry)) (now (p .entry))) (length (now (out .entry))) (now (out .entry)) ⌝ }
+{
+    match check(v) {
+        Answer::Refused(why) => Answer::Refused(why),
+        Answer::Done(_) => {
+            let n = v.len();
+            if p.len() != n {
+                return refuse(Kind::InputLength, n);
+            }
+            let i = shuffle::permutation_fault(p, n);
+            if i < n {
+                return refuse(Kind::Permutation, i);
+            }
+            if out.len() < n {
+                return refuse(Kind::Room, n);
+            }
+            renaming::renamed_vector(v, p, out);
             Answer::Done(n)
         }
     }

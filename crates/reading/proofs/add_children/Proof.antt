@@ -64,9 +64,11 @@ loop-less c = search needs
 
 -- src/lib.rt:117:5
 loop-again : tie.Need-loop-again Inv-loop μ-loop
-loop-again c = (added-next (c .before .before .before .before .before .before .before .before .before .before .before .before .before .before .before .before .before .before .before .before .before .loop .inv .0) (omega arith) (c .before .before .before .before .before .before .before .before .before .before .before .before .before .before .before .before .before .before .wide .ensures) (c .before .before .before .before .before .before .before .before .before .before .before .before .before .before .before .before .wide2 .ensures) (c .before .before .before .before .before .before .before .before .before .before .add-pair .ensures),
-    record { of-named = refl; of-names = omega (arith, c .before .before .before .before .before .before .before .before .before .before .add-pair .kept); of-larger = omega (arith, c .before .before .before .before .before .before .before .before .before .before .add-pair .kept); of-small = omega (arith, c .before .before .before .before .before .before .before .before .before .before .add-pair .kept); of-up = omega (arith, c .before .before .before .before .before .before .before .before .before .before .add-pair .kept); of-waits = omega (arith, c .before .before .before .before .before .before .before .before .before .before .add-pair .kept) },
-    c .before .before .before .before .before .before .before .before .before .before .before .before .before .before .before .before .before .before .before .before .before .loop .inv .2)
+loop-again c = (
+  added-next (c .before .before .before .before .before .before .before .before .before .before .before .before .before .before .before .before .before .before .before .before .before .loop .inv .0) (omega arith) (c .before .before .before .before .before .before .before .before .before .before .before .before .before .before .before .before .before .before .wide .ensures) (c .before .before .before .before .before .before .before .before .before .before .before .before .before .before .before .before .wide2 .ensures) (c .before .before .before .before .before .before .before .before .before .before .add-pair .ensures),
+  record { of-named = refl; of-names = omega (arith, c .before .before .before .before .before .before .before .before .before .before .add-pair .kept); of-larger = omega (arith, c .before .before .before .before .before .before .before .before .before .before .add-pair .kept); of-small = omega (arith, c .before .before .before .before .before .before .before .before .before .before .add-pair .kept); of-up = omega (arith, c .before .before .before .before .before .before .before .before .before .before .add-pair .kept); of-waits = omega (arith, c .before .before .before .before .before .before .before .before .before .before .add-pair .kept) },
+  c .before .before .before .before .before .before .before .before .before .before .before .before .before .before .before .before .before .before .before .before .before .loop .inv .2,
+)
 
 -- src/lib.rt:101:1
 same-length : tie.Need-same-length Inv-loop μ-loop
