@@ -96,12 +96,12 @@ pub fn pack(v: &[u16], out: &mut [u8]) -> Answer
     match check(v) {
         Answer::Refused(why) => Answer::Refused(why),
         Answer::Done(_) => {
-            let needed = record::record_length(v.len());
-            if out.len() < needed {
-                return refuse(Kind::Room, needed);
+            let bytes = record::record_length(v.len());
+            if out.len() < bytes {
+                return refuse(Kind::Room, bytes);
             }
             record::pack_into(v, out);
-            Answer::Done(needed)
+            Answer::Done(bytes)
         }
     }
 }
