@@ -1,11 +1,11 @@
 -- What a text gives, by what the public call makes of it.
--- Main definitions: Holds, Gives. Main results: too-many, label-found, vector-held.
+-- Main definitions: Holds, Gives. Main results: held-there, too-many, label-found, vector-held.
 use mathlib.Core.List.{List, [], _++_, map}
 use mathlib.Core.Option.{none, some}
 use mathlib.Core.Path.{_≡_, refl, sym, ap, _∙_, subst}
 use Prim.Native.Nat.{ℕ, _-_, _≤_, _<_}
 use native.Mathlib.Omega.{arith}
-use lib.ListN.{length, take, drop}
+use lib.ListN.{length, take, length-take}
 use lib.Seq.{take-at}
 use Rattle.rules.specs.Tree.{Tree, size}
 use Rattle.rules.specs.Order.{vectorOf}
@@ -25,9 +25,11 @@ use Rattle.texts.specs.declared.Given.the-variants.{Entries, Breaks, Too
 
 -- the text's vector stands at the front of vector
 pub record Holds (s : List ℕ) (n : ℕ) (vector : List ℕ) : Type 0 where
-  pub few : n ≤ 1024
   pub count : length (take n vector) ≡ n
   pub makes : FromText s (made (take n vector))
+
+pub held-there : {s : List ℕ} {n : ℕ} {vector : List ℕ} → Holds s n vector → n ≤ length vector
+held-there {n = n} {vector} H = omega (arith, H .count, length-take n vector)
 
 abbrev pub Gives : List ℕ → List ℕ → Given → Type 0
 Gives s vector (Entries n) = Holds s n vector
@@ -73,7 +75,6 @@ module _ {s ls ps ls′ ps′ : List ℕ} {r : Next} (short : length s ≤ 6056)
           let l : length (vectorOf (T .tree)) ≡ r .labels = every-tree (r .labels) (T .tree) (leaves-recorded T no-fault) .entries in
           let f : take (r .labels) vector ≡ vectorOf (T .tree) = ap (take (r .labels)) v ∙ take-at (vectorOf (T .tree)) rest (r .labels) l in
           record {
-            few = few;
             count = ap length f ∙ l;
             makes = makes-labels _ (checked few ∙ pass-at 9 _ _ no-fault ∙ ap made (sym f));
           }

@@ -3,3 +3,4 @@ pub mod Room
 pub mod ToTable
 pub mod Packing
 pub mod FromTable
+pub mod ToText
