@@ -4,3 +4,4 @@ pub mod ToTable
 pub mod Packing
 pub mod FromTable
 pub mod Renaming
+pub mod ToText

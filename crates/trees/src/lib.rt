@@ -3,12 +3,13 @@
 use rules::Answer;
 use rules::Kind;
 use rules::Refusal;
+use texts::Given;
 use unpacking::Held;
 ghost use mathlib.Core.Path.{_≡_};
 ghost use lib.ListN.{length};
-ghost use Rattle.rules.specs.Answer.{refused, numberOf, reads, answer, after};
+ghost use Rattle.rules.specs.Answer.{Made, refused, numberOf, reads, answer, after};
 ghost use Rattle.rules.specs.Calls as calls;
-ghost use Rattle.rules.specs.Calls.{toTable, fromTable, shuffleNew, shuffleVector};
+ghost use Rattle.rules.specs.Calls.{toTable, fromTable, toText, FromText, shuffleNew, shuffleVector};
 ghost use Prim.Native.Nat.{min};
 ghost use Rattle.reading.specs.Verdict.{rowNumber};
 
@@ -86,6 +87,46 @@ fn row_kind(number: u8) -> Kind
         return Kind::Child;
     }
     Kind::NamedBefore
+}
+
+// Vector to Newick: 1, 4, 3.
+pub fn to_newick(v: &[u16], out: &mut [u8]) -> Answer
+    ensures { λ r. ⌜ reads r ≡ answer (toText (now (v .entry))) (length (now (out .entry))) ⌝ }
+    ensures { λ r. ⌜ now (out .exit) ≡ after (toText (now (v .entry))) (length (now (out .entry))) (now (out .entry)) ⌝ }
+{
+    match check(v) {
+        Answer::Refused(why) => Answer::Refused(why),
+        Answer::Done(_) => {
+            let needed = texts::text_length(v.len());
+            if out.len() < needed {
+                return refuse(Kind::Room, needed);
+            }
+            texts::write_tree(v, out);
+            Answer::Done(needed)
+        }
+    }
+}
+
+// Newick to vector: 2 (above 6,056 bytes), 8, 1, 9, 3.
+pub fn from_newick(text: &[u8], out: &mut [u16]) -> Answer
+    ensures { λ r. ⌜ ((m : Made) × FromText (now (text .entry)) m × (reads r ≡ answer m (length (now (out .entry)))) × (now (out .exit) ≡ after m (length (now (out .entry))) (now (out .entry)))) ⌝ }
+{
+    if 6056 < text.len() {
+        return refuse(Kind::InputLength, 6056);
+    }
+    let mut vector = [0u16; 1024];
+    match texts::read_vector(text, &mut vector) {
+        Given::Breaks(place) => refuse(Kind::Grammar, place),
+        Given::TooMany => refuse(Kind::LeafCount, 0),
+        Given::Label(place) => refuse(Kind::Label, place),
+        Given::Entries(n) => {
+            if out.len() < n {
+                return refuse(Kind::Room, n);
+            }
+            vector::copy_out(&vector, n, out);
+            Answer::Done(n)
+        }
+    }
 }
 
 // Vector to packed record: 1, 4, 3.

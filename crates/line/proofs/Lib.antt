@@ -1,0 +1,5 @@
+pub mod Written
+pub mod Commas
+pub mod Parts
+pub mod Text
+pub mod Unpacked

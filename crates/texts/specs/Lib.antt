@@ -1,0 +1,4 @@
+pub mod Long
+pub mod Standing
+pub mod Kept
+pub mod Given

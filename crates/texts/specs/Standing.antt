@@ -1,0 +1,165 @@
+-- The rows of a vector, as children by their numbers: each child stands before its row's node, the child with the smaller
+-- least leaf first, and the tree of the last node is the vector's.
+-- Main results: least-first, rows-ordered, rows-tree, text-fits, text-there.
+use mathlib.Core.Bool.{Bool, true, false, cond}
+use mathlib.Core.List.{List, [], _∷_, _++_, map}
+use mathlib.Core.Path.{_≡_, refl, sym, ap, ap₂, _∙_}
+use Prim.Native.Nat.{ℕ, zero, suc, _+_, _-_, _≤_, _<_, min}
+use native.Mathlib.Omega.{arith}
+use lib.Dec.{eqb}
+use lib.ListN.{length, getD, take, drop, length-map, length-append}
+use lib.Seq.{take-at, sets-eq}
+use borrow.Author.Tests.{eqb-true, eq-eqb, ne-eqb}
+use Rattle.rules.specs.Vector.{entry, Valid}
+use Rattle.rules.specs.Building.{Merge}
+use Rattle.rules.specs.Tree.{Tree, leaf, node, least, Clusters, treeOf}
+use Rattle.rules.specs.Newick.{textOf}
+use Rattle.rules.specs.Table.{Row, rowsFrom, nodesOf, tableTree}
+use Rattle.merging.specs.Insertion.{pairsOf, pairs}
+use Rattle.merging.specs.Greedy.{Under, under-pairs}
+use Rattle.merging.specs.Named.{named, Good, good, Rising, rising}
+use Rattle.building.specs.Built.{valid-bounded}
+use Rattle.laws.specs.TreeOf.{tree-by-pairs, tree-leaves}
+use Rattle.grammar.specs.Length.{textLength, text-length}
+use Rattle.grammar.specs.Nodes.{tied, treeAt, wholeTree, tree-whole}
+use Rattle.table.specs.Rows.{first, second, rows-length, tied-rows}
+use Rattle.table.specs.Rows as rows
+use Rattle.table.specs.Children.{pairs-count}
+use Rattle.table.specs.Accepted.{renumber, smaller-named, larger-named, still-named, named-below, ChildrenBelow, pairs-below}
+use Rattle.table.specs.Grown.{pairs-tree}
+use Rattle.newick.specs.Output.{Ordered, Wrote}
+
+-- the nodes after a row
+abbrev above : Clusters → ℕ → ℕ → ℕ → Clusters
+above C p l r = λ k. cond (eqb k p) (node (C l) (C r)) (C k)
+
+-- rows change no node before their parents
+nodes-before : (p : ℕ) (number : ℕ → ℕ) (P : List Merge) (C : Clusters) (k : ℕ) → k < p → nodesOf (rowsFrom p number P) C k ≡ C k
+unfolding nodesOf rowsFrom
+nodes-before p number [] C k h = refl
+nodes-before p number (m ∷ P) C k h =
+    nodes-before (p + 1) (renumber number (m .0) p) P (above C p (number (m .0)) (number (m .1))) k (omega arith) ∙ rw (ne-eqb k p (λ q. omega arith))
+
+-- Each name that is left has a node below p, whose least leaf is the name.
+record Named (P : List Merge) (p : ℕ) (number : ℕ → ℕ) (C : Clusters) : Type 0 where
+  pub below : (x : ℕ) → named P x ≡ true → number x < p
+  pub name : (x : ℕ) → named P x ≡ true → least (C (number x)) ≡ x
+
+named-next : (m : Merge) (P : List Merge) (p : ℕ) (number : ℕ → ℕ) (C : Clusters) → Good (m ∷ P) → m .0 < m .1 → Named (m ∷ P) p number C
+    → Named P (p + 1) (renumber number (m .0) p) (above C p (number (m .0)) (number (m .1)))
+unfolding least
+named-next m P p number C G u N = record {
+  below = λ x h. below′ x h (eqb x (m .0)) refl;
+  name = λ x h. name′ x h (eqb x (m .0)) refl;
+}
+  where
+    old : (x : ℕ) → named P x ≡ true → number x < p
+    old x h = N .below x (still-named m P x h)
+
+    below′ : (x : ℕ) → named P x ≡ true → (b : Bool) → eqb x (m .0) ≡ b → cond b p (number x) < p + 1
+    below′ x h true q = omega arith
+    below′ x h false q = omega (arith, old x h)
+
+    name′ : (x : ℕ) → named P x ≡ true → (b : Bool) → eqb x (m .0) ≡ b → least (above C p (number (m .0)) (number (m .1)) (cond b p (number x))) ≡ x
+    name′ x h true q =
+        let a = N .name (m .0) (smaller-named m P G) in
+        let b = N .name (m .1) (larger-named m P) in
+        let e = eqb-true x (m .0) q in
+        rw (eq-eqb p p refl) (omega arith)
+    name′ x h false q = rw (ne-eqb (number x) p (λ e. omega (arith, old x h))) (N .name x (still-named m P x h))
+
+-- the child with the smaller least leaf is first in row j
+least-first : (P : List Merge) (p : ℕ) (number : ℕ → ℕ) (C : Clusters) → Good P → Rising P → Named P p number C → (j : ℕ) → j < length P
+    → least (nodesOf (rowsFrom p number P) C (getD (rowsFrom p number P) j (0, 0, 0) .0)) < least (nodesOf (rowsFrom p number P) C (getD (rowsFrom p number P) j (0, 0, 0) .1))
+unfolding nodesOf rowsFrom Good Rising
+least-first [] p number C G R N j h = absurd (omega arith)
+least-first (m ∷ P) p number C G R N zero h =
+    let x = N .below (m .0) (smaller-named m P G) in
+    let y = N .below (m .1) (larger-named m P) in
+    let a = N .name (m .0) (smaller-named m P G) in
+    let b = N .name (m .1) (larger-named m P) in
+    let r = R .0 in
+    rw (nodes-before p number (m ∷ P) C (number (m .0)) x, nodes-before p number (m ∷ P) C (number (m .1)) y) (omega arith)
+least-first (m ∷ P) p number C G R N (suc j) h =
+    least-first P (p + 1) (renumber number (m .0) p) (above C p (number (m .0)) (number (m .1))) (G .2) (R .1) (named-next m P p number C G (R .0) N) j (omega arith)
+
+pub same-tied : (p : ℕ) (L R : List ℕ) → tied p L R ≡ rows.tied p L R
+unfolding tied rows.tied
+same-tied p [] R = refl
+same-tied p (l ∷ L) [] = refl
+same-tied p (l ∷ L) (r ∷ R) = ap (λ (rs : List Row). (l, r, p) ∷ rs) (same-tied (p + 1) L R)
+
+-- an element of a list that is kept in front
+pub front-at : {A : Type 0} (f : A → ℕ) (d : A) (xs : List A) (rest : List ℕ) (i : ℕ) → i < length xs → getD (map f xs ++ rest) i 0 ≡ f (getD xs i d)
+front-at f d [] rest i h = absurd (omega arith)
+front-at f d (x ∷ xs) rest zero h = refl
+front-at f d (x ∷ xs) rest (suc i) h = front-at f d xs rest i (omega arith)
+
+-- the rows of a vector
+abbrev pub vectorRows : List ℕ → List Row
+vectorRows v = rowsFrom (length v) (λ c. c) (pairs v)
+
+module _ (v left right more more′ : List ℕ) (ok : Valid v) (few : length v ≤ 1024)
+    (l : left ≡ map first (vectorRows v) ++ more) (r : right ≡ map second (vectorRows v) ++ more′) where
+  count : length (vectorRows v) ≡ length v - 1
+  count = rows-length (length v) (λ c. c) (pairs v) ∙ pairs-count v ok
+
+  lefts : take (length v - 1) left ≡ map first (vectorRows v)
+  lefts = ap (take (length v - 1)) l ∙ take-at (map first (vectorRows v)) more (length v - 1) (length-map (vectorRows v) first ∙ count)
+
+  rights : take (length v - 1) right ≡ map second (vectorRows v)
+  rights = ap (take (length v - 1)) r ∙ take-at (map second (vectorRows v)) more′ (length v - 1) (length-map (vectorRows v) second ∙ count)
+
+  table : tied (length v) (take (length v - 1) left) (take (length v - 1) right) ≡ vectorRows v
+  table = ap₂ (tied (length v)) lefts rights ∙ same-tied (length v) _ _ ∙ tied-rows (length v) (λ c. c) (pairs v)
+
+  left-at : (j : ℕ) → j < length v - 1 → getD left j 0 ≡ getD (vectorRows v) j (0, 0, 0) .0
+  left-at j h = ap (λ (xs : List ℕ). getD xs j 0) l ∙ front-at first (0, 0, 0) (vectorRows v) more j (omega (arith, count))
+
+  right-at : (j : ℕ) → j < length v - 1 → getD right j 0 ≡ getD (vectorRows v) j (0, 0, 0) .1
+  right-at j h = ap (λ (xs : List ℕ). getD xs j 0) r ∙ front-at second (0, 0, 0) (vectorRows v) more′ j (omega (arith, count))
+
+  in-rows : (j : ℕ) → j < length v - 1
+      → least (nodesOf (vectorRows v) leaf (getD (vectorRows v) j (0, 0, 0) .0)) < least (nodesOf (vectorRows v) leaf (getD (vectorRows v) j (0, 0, 0) .1))
+  unfolding pairs least
+  in-rows j h =
+      let n = length v in
+      let P = pairsOf (entry v) n in
+      let N : Named P n (λ c. c) leaf = record { below = named-below n P (ok .some-leaf) (under-pairs (entry v) n); name = λ x e. refl } in
+      least-first P n (λ c. c) leaf (good (entry v) n (valid-bounded v ok)) (rising (entry v) n (valid-bounded v ok)) N j (omega (arith, pairs-count v ok))
+
+  there-left : length v - 1 ≤ length left
+  there-left = omega (arith, ap length l, length-append (map first (vectorRows v)) more, length-map (vectorRows v) first, count)
+
+  there-right : length v - 1 ≤ length right
+  there-right = omega (arith, ap length r, length-append (map second (vectorRows v)) more′, length-map (vectorRows v) second, count)
+
+  pub rows-ordered : Ordered (length v) left right
+  unfolding treeAt ChildrenBelow
+  rows-ordered = record {
+    some-leaf = ok .some-leaf;
+    few = few;
+    lefts-there = there-left;
+    rights-there = there-right;
+    left-below = λ j h. omega (arith, left-at j h, pairs-below v ok j h .0);
+    right-below = λ j h. omega (arith, right-at j h, pairs-below v ok j h .1);
+    smaller-first = λ j h. rw (table, left-at j h, right-at j h) (in-rows j h);
+  }
+
+  pub rows-tree : wholeTree (length v) left right ≡ treeOf v
+  rows-tree =
+      tree-whole (length v) left right (ok .some-leaf) there-left there-right ∙ ap (tableTree (length v)) table ∙ pairs-tree v ok
+      ∙ sym (tree-by-pairs v ok)
+
+  text-count : length (textOf (wholeTree (length v) left right)) ≡ textLength (length v)
+  text-count = ap (λ (t : Tree). length (textOf t)) rows-tree ∙ text-length (length v) (treeOf v) (tree-leaves v ok)
+
+  pub text-fits : (room : ℕ) → textLength (length v) ≤ room → length (textOf (wholeTree (length v) left right)) ≤ room
+  text-fits room h = omega (arith, text-count)
+
+  pub text-there : (out out′ : List ℕ) (k : ℕ) → textLength (length v) ≤ length out → Wrote (textOf (wholeTree (length v) left right)) 0 out out′ k
+      → out′ ≡ textOf (treeOf v) ++ drop (textLength (length v)) out
+  text-there out out′ k h W =
+      let z : 0 + length (textOf (wholeTree (length v) left right)) ≡ textLength (length v) = omega (arith, text-count) in
+      W .bytes-there ∙ sets-eq (textOf (wholeTree (length v) left right)) out 0 (omega (arith, text-count))
+      ∙ ap₂ (λ (t : Tree) (j : ℕ). textOf t ++ drop j out) rows-tree z
