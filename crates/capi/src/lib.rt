@@ -4,7 +4,7 @@ use rules::Kind;
 ghost use mathlib.Core.Path.{_≡_};
 ghost use Prim.Native.Nat.{min};
 ghost use lib.ListN.{length};
-ghost use Rattle.rules.specs.Answer.{reads, answer, after, numberOf};
+ghost use Rattle.rules.specs.Answer.{Made, reads, answer, after, numberOf};
 ghost use Rattle.rules.specs.Calls as calls;
 ghost use Rattle.capi.specs.Coded.{coded};
 
@@ -61,11 +61,33 @@ pub extern "C" fn blathersike_to_table(v: &[u16], out: &mut [u16], back: &mut [u
 
 // Merge table to vector.
 #[no_mangle]
-pub extern "C" fn blathersike_from_table(leaves: usize, rows: &[u16], out: &mut [u16], back: &mut [u64; 2])
+pub extern "C" fn blathersike_from_table(
+    leaves: usize,
+    rows: &[u16],
+    out: &mut [u16],
+    back: &mut [u64; 2],
+)
     ensures { λ r. ⌜ now (back .exit) ≡ coded (answer (calls.fromTable leaves (now (rows .entry))) (length (now (out .entry)))) ⌝ }
     ensures { λ r. ⌜ now (out .exit) ≡ after (calls.fromTable leaves (now (rows .entry))) (length (now (out .entry))) (now (out .entry)) ⌝ }
 {
     hand_back(trees::from_table(leaves, rows, out), back);
+}
+
+// Vector to Newick text.
+#[no_mangle]
+pub extern "C" fn blathersike_to_newick(v: &[u16], out: &mut [u8], back: &mut [u64; 2])
+    ensures { λ r. ⌜ now (back .exit) ≡ coded (answer (calls.toText (now (v .entry))) (length (now (out .entry)))) ⌝ }
+    ensures { λ r. ⌜ now (out .exit) ≡ after (calls.toText (now (v .entry))) (length (now (out .entry))) (now (out .entry)) ⌝ }
+{
+    hand_back(trees::to_newick(v, out), back);
+}
+
+// Newick text to vector.
+#[no_mangle]
+pub extern "C" fn blathersike_from_newick(text: &[u8], out: &mut [u16], back: &mut [u64; 2])
+    ensures { λ r. ⌜ ((m : Made) × calls.FromText (now (text .entry)) m × (now (back .exit) ≡ coded (answer m (length (now (out .entry))))) × (now (out .exit) ≡ after m (length (now (out .entry))) (now (out .entry)))) ⌝ }
+{
+    hand_back(trees::from_newick(text, out), back);
 }
 
 // Vector to packed record.
@@ -88,7 +110,12 @@ pub extern "C" fn blathersike_unpack(s: &[u8], out: &mut [u16], back: &mut [u64;
 
 // Queue Shuffle.
 #[no_mangle]
-pub extern "C" fn blathersike_shuffle(v: &[u16], new: &mut [u16], out: &mut [u16], back: &mut [u64; 2])
+pub extern "C" fn blathersike_shuffle(
+    v: &[u16],
+    new: &mut [u16],
+    out: &mut [u16],
+    back: &mut [u64; 2],
+)
     ensures { λ r. ⌜ now (back .exit) ≡ coded (answer (calls.shuffleNew (now (v .entry))) (min (length (now (new .entry))) (length (now (out .entry))))) ⌝ }
     ensures { λ r. ⌜ now (new .exit) ≡ after (calls.shuffleNew (now (v .entry))) (min (length (now (new .entry))) (length (now (out .entry)))) (now (new .entry)) ⌝ }
     ensures { λ r. ⌜ now (out .exit) ≡ after (calls.shuffleVector (now (v .entry))) (min (length (now (new .entry))) (length (now (out .entry)))) (now (out .entry)) ⌝ }

@@ -97,12 +97,12 @@ pub fn to_newick(v: &[u16], out: &mut [u8]) -> Answer
     match check(v) {
         Answer::Refused(why) => Answer::Refused(why),
         Answer::Done(_) => {
-            let needed = texts::text_length(v.len());
-            if out.len() < needed {
-                return refuse(Kind::Room, needed);
+            let signs = texts::text_length(v.len());
+            if out.len() < signs {
+                return refuse(Kind::Room, signs);
             }
             texts::write_tree(v, out);
-            Answer::Done(needed)
+            Answer::Done(signs)
         }
     }
 }
