@@ -1,16 +1,19 @@
 -- The loop that builds the merges of a vector: the two lists hold the merges of the first i entries.
--- Main definitions: Built, Turn. Main results: built-start, turn, built-next, built-end.
-use mathlib.Core.Path.{_≡_, refl, sym, ap, _∙_}
-use mathlib.Core.List.{List, map}
-use Prim.Native.Nat.{ℕ, _+_, _-_, _*_, _≤_, _<_}
+-- Main definitions: Built, Turn, Put. Main results: built-start, turn, put-front, put-behind, built-next, built-end.
+use mathlib.Core.Path.{_≡_, refl, sym, ap, ap₂, _∙_}
+use mathlib.Core.List.{List, _∷_, map}
+use Prim.Native.Nat.{ℕ, suc, _+_, _-_, _*_, _≤_, _<_}
+use native.Mathlib.Numerals.{add-one}
 use native.Mathlib.Omega.{arith}
 use lib.ListN.{length, take, drop, getD, set, length-take, length-drop, length-set}
+use lib.Seq.{drop-cons, lt-length-set, getD-set-same, drop-set-lt}
+use borrow.Author.Tests.{lt-ltb, le-ltb}
 use Rattle.rules.specs.Vector.{entry, bound, Valid}
 use Rattle.rules.specs.Building.{Merge}
 use Rattle.merging.specs.Insertion.{pairsOf, pairs, Bounded}
 use Rattle.merging.specs.Greedy.{Under, under-pairs}
 use Rattle.merges.specs.Moved.{ins}
-use Rattle.merges.specs.Held.{held, place, nameAt, nameIn, pairs-next, pairs-long, place-le, larger-below, merge-at, same-name, held-next}
+use Rattle.merges.specs.Held.{held, place, nameAt, nameIn, pairs-next, pairs-long, larger-below, merge-at, same-name, held-next}
 
 -- list from lo on and small hold the merges of the first i entries
 pub record Built (v list small : List ℕ) (lo i : ℕ) : Type 0 where
@@ -42,31 +45,67 @@ built-start ok few size size-small = record {
   listed = refl;
 }
 
--- the numbers of a turn
-pub record Turn (list small : List ℕ) (lo i x s : ℕ) : Type 0 where
+-- where leaf i's merge can be put, whose entry is x
+pub record Turn (list small : List ℕ) (lo i x : ℕ) : Type 0 where
   pub top : x ≤ 2 * (i - 1)
-  pub placed : s ≤ i - 1
+  pub low : 1 ≤ i
   pub first : 16 ≤ lo
   pub inside : lo + (i - 1) + 16 ≤ length list
   pub looks : lo + (x - i) < length list
   pub finds : i ≤ x → getD list (lo + (x - i)) 0 < length small
-  pub few : i - 1 ≤ 1024
+  pub few : i ≤ 1024
   pub stores : i < length small
 
-pub turn : {v list small : List ℕ} {lo i x s : ℕ} → Built v list small lo i → i < length v → x ≡ getD v i 0 → s ≡ place x i → Turn list small lo i x s
+-- leaf i's merge is put: the list starts at lo′ then
+pub record Put (list small : List ℕ) (lo i x : ℕ) (list′ small′ : List ℕ) (lo′ : ℕ) : Type 0 where
+  pub up : lo′ ≤ lo
+  pub down : lo ≤ lo′ + 1
+  pub larger : take (i - 1 + 1) (drop lo′ list′) ≡ ins (place x i) i (take (i - 1) (drop lo list))
+  pub smaller : small′ ≡ set small i (nameAt list small lo x i)
+
+-- the list from a store on
+from-store : (l : List ℕ) (k a : ℕ) → k < length l → drop k (set l k a) ≡ a ∷ drop (k + 1) l
+from-store l k a h =
+    drop-cons (set l k a) k 0 (lt-length-set l k a h)
+    ∙ ap₂ (λ (x : ℕ) (r : List ℕ). x ∷ r) (getD-set-same l k a 0 h) (drop-set-lt (suc k) l k a (omega arith) ∙ ap (λ (n : ℕ). drop n l) (sym (add-one k)))
+
+-- an entry below i names a leaf: its merge goes in front
+pub put-front : {list small : List ℕ} {lo i x : ℕ} → Turn list small lo i x → x < i → Put list small lo i x (set list (lo - 1) i) (set small i x) (lo - 1)
+unfolding place nameAt ins
+put-front {list} {small} {lo} {i} {x} T h =
+    let p = T .first in
+    let q = T .inside in
+    let inside : lo - 1 < length list = omega arith in
+    let back : lo - 1 + 1 ≡ lo = omega arith in record {
+      up = omega arith;
+      down = omega arith;
+      larger = rw (lt-ltb x i h, from-store list (lo - 1) i inside, back) (rw add-one);
+      smaller = rw (lt-ltb x i h);
+    }
+
+-- any other goes right behind the merge that it counts, and has its smaller name
+pub put-behind : {list small list′ : List ℕ} {lo i x lo′ : ℕ} → Turn list small lo i x → i ≤ x → lo′ ≤ lo → lo ≤ lo′ + 1 → take (i - 1 + 1) (drop lo′ list′) ≡ ins (x - i + 1) i (take (i - 1) (drop lo list))
+    → Put list small lo i x list′ (set small i (getD small (getD list (lo + (x - i)) 0) 0)) lo′
+unfolding place nameAt
+put-behind {list} {small} {list′} {lo} {i} {x} {lo′} T h u d e = record {
+  up = u;
+  down = d;
+  larger = rw (le-ltb x i h) e;
+  smaller = rw (le-ltb x i h);
+}
+
+pub turn : {v list small : List ℕ} {lo i x : ℕ} → Built v list small lo i → i < length v → x ≡ getD v i 0 → Turn list small lo i x
 unfolding entry bound
-turn {v} {list} {small} {lo} {i} {x} {s} B h ex es =
+turn {v} {list} {small} {lo} {i} {x} B h ex =
     let t = B .valid .bounded i h in
     let top : x ≤ 2 * (i - 1) = omega arith in
-    let p : place x i ≤ i - 1 = place-le x i top (B .low) in
     let few = B .few in
-    let inside : lo + (i - 1) + 16 ≤ length list = omega arith in
     let P = pairsOf (entry v) i in
     record {
       top = top;
-      placed = omega arith;
+      low = B .low;
       first = omega arith;
-      inside = inside;
+      inside = omega arith;
       looks = omega arith;
       finds = λ l.
           let m = merge-at list small lo (i - 1) P (B .listed) (x - i) (omega arith) (omega (arith, length-take (i - 1) (drop lo list), length-drop lo list)) in
@@ -75,15 +114,16 @@ turn {v} {list} {small} {lo} {i} {x} {s} B h ex es =
       stores = omega arith;
     }
 
-pub built-next : {v list list′ small : List ℕ} {lo lo′ i x s a : ℕ} → Built v list small lo i → i < length v → x ≡ getD v i 0 → s ≡ place x i → a ≡ nameAt list small lo x i → length list′ ≡ length list → lo′ ≤ lo → lo ≤ lo′ + 1 → take (i - 1 + 1) (drop lo′ list′) ≡ ins s i (take (i - 1) (drop lo list)) → Built v list′ (set small i a) lo′ (i + 1)
+pub built-next : {v list list′ small small′ : List ℕ} {lo lo′ i x : ℕ} → Built v list small lo i → i < length v → x ≡ getD v i 0 → length list′ ≡ length list → Put list small lo i x list′ small′ lo′ → Built v list′ small′ lo′ (i + 1)
 unfolding entry
-built-next {v} {list} {list′} {small} {lo} {lo′} {i} {x} {s} {a} B h ex es ea ls up down e =
-    let T = turn B h ex es in
+built-next {v} {list} {list′} {small} {small′} {lo} {lo′} {i} {x} B h ex ls p =
+    let T = turn B h ex in
     let P = pairsOf (entry v) i in
-    let long = pairs-long (entry v) i (B .low) in
     let few = B .few in
     let top = T .top in
     let inside = T .inside in
+    let up = p .up in
+    let down = p .down in
     let q : i + 1 - 1 ≡ i - 1 + 1 = omega arith in
     let under : Under i (map (held small) (take (i - 1) (drop lo list))) = rw (B .listed) (under-pairs (entry v) i) in
     let name : nameAt list small lo x i ≡ nameIn P x i =
@@ -93,13 +133,13 @@ built-next {v} {list} {list′} {small} {lo} {lo′} {i} {x} {s} {a} B h ex es e
       valid = B .valid;
       few = B .few;
       size = ls ∙ B .size;
-      size-small = length-set small i a ∙ B .size-small;
+      size-small = ap length (p .smaller) ∙ length-set small i (nameAt list small lo x i) ∙ B .size-small;
       low = omega arith;
       high = omega arith;
       above = omega arith;
       below = omega arith;
       listed =
-          rw (q, e, held-next small (take (i - 1) (drop lo list)) s i a (T .stores) under, B .listed, es, ea, name, ex)
+          rw (q, p .larger, p .smaller, held-next small (take (i - 1) (drop lo list)) (place x i) i (nameAt list small lo x i) (T .stores) under, B .listed, name, ex)
           (sym (pairs-next (entry v) i (B .low)));
     }
 

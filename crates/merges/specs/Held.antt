@@ -1,6 +1,6 @@
 -- Merges held by a list of their larger names and, for each larger name, its smaller name;
 -- and the merge that an entry puts into the merges of the entries before it.
--- Main definitions: held, place, nameAt. Main results: pairs-next, pairs-long, place-le, same-name, held-next.
+-- Main definitions: held, place, nameAt. Main results: pairs-next, pairs-long, same-name, held-next.
 use mathlib.Core.Path.{_≡_, refl, sym, ap, ap₂, _∙_}
 use mathlib.Core.Bool.{Bool, true, false, cond}
 use mathlib.Core.List.{List, [], _∷_, map}
@@ -49,14 +49,6 @@ pairs-next v (suc m) h = rw add-one (insert-ins (suc m) (v (suc m)) (pairsOf v (
 pub pairs-long : (v : ℕ → ℕ) (i : ℕ) → 1 ≤ i → length (pairsOf v i) ≡ i - 1
 pairs-long v zero h = absurd (omega arith)
 pairs-long v (suc m) h = omega (arith, pairs-length v m)
-
-pub place-le : (x i : ℕ) → x ≤ 2 * (i - 1) → 1 ≤ i → place x i ≤ i - 1
-unfolding place
-place-le x i h g = go (ltb x i) refl
-  where
-    go : (b : Bool) → ltb x i ≡ b → cond b 0 (x - i + 1) ≤ i - 1
-    go true e = omega arith
-    go false e = omega (arith, ltb-false x i e)
 
 -- all larger names are below n
 pub larger-below : (n : ℕ) (P : List Merge) → Under n P → (t : ℕ) → t < length P → getD P t (0, 0) .1 < n

@@ -1,11 +1,12 @@
 ghost use mathlib.Core.Path.{_≡_};
 ghost use mathlib.Core.List.{map};
 ghost use Prim.Native.Nat.{_+_, _-_, _<_, _≤_};
-ghost use lib.ListN.{length, take, drop, getD};
+ghost use lib.ListN.{length, take, drop};
 ghost use Rattle.rules.specs.Vector.{Valid};
 ghost use Rattle.merging.specs.Insertion.{pairs};
 ghost use Rattle.merges.specs.Moved.{ins, moved};
-ghost use Rattle.merges.specs.Held.{held, place, nameAt};
+ghost use Rattle.merges.specs.Held.{held};
+ghost use Rattle.merges.specs.Built.{Turn, Put};
 use vector::wide;
 
 // The names behind e, as far as `at`, move down over the name at e, and w follows them.
@@ -58,23 +59,21 @@ fn insert(list: &mut [u16], lo: usize, m: usize, s: usize, w: u16) -> usize
     lo
 }
 
-// Before how many merges leaf i's merge stands, where its entry is x.
-fn place_of(x: usize, i: usize) -> usize
-    requires { ⌜ x ≤ 65535 ⌝ }
-    ensures { λ r. ⌜ r ≡ place x i ⌝ }
-{
-    if x < i { 0 } else { x - i + 1 }
-}
-
-// The smaller name of leaf i's merge, where its entry is x and the larger names of the merges before start at lo.
-fn name_at(list: &[u16], small: &[u16], lo: usize, x: usize, i: usize) -> u16
-    requires { ⌜ (x ≤ 65535) × (lo + (x - i) < length (now list)) × (i ≤ x → getD (now list) (lo + (x - i)) 0 < length (now small)) ⌝ }
-    ensures { λ r. ⌜ r ≡ nameAt (now (list .entry)) (now (small .entry)) lo x i ⌝ }
+// Puts leaf i's merge, where its entry is x, among the i-1 merges before: its smaller name into small, its larger name into the
+// list that starts at lo. The result is where the list starts then. An entry that names a leaf moves nothing, and so do half of
+// all entries of a random tree: that case comes first.
+fn put(list: &mut [u16], small: &mut [u16], lo: usize, i: usize, x: usize) -> usize
+    requires { ⌜ Turn (now list) (now small) lo i x ⌝ }
+    ensures { λ r. ⌜ Put (now (list .entry)) (now (small .entry)) lo i x (now (list .exit)) (now (small .exit)) r ⌝ }
 {
     if x < i {
-        return x as u16;
+        let front = lo - 1;
+        small[i] = x as u16;
+        list[front] = i as u16;
+        return front;
     }
-    small[wide(list[lo + (x - i)])]
+    small[i] = small[wide(list[lo + (x - i)])];
+    insert(list, lo, i - 1, x - i + 1, i as u16)
 }
 
 // Writes the merges of v: their larger names into list, which grows at both ends from its middle, and for each of them the
@@ -88,10 +87,7 @@ pub fn merges(v: &[u16], list: &mut [u16], small: &mut [u16]) -> usize
     let mut lo: usize = 1040;
     let mut i: usize = 1;
     while i < n {
-        let x = wide(v[i]);
-        let s = place_of(x, i);
-        small[i] = name_at(list, small, lo, x, i);
-        lo = insert(list, lo, i - 1, s, i as u16);
+        lo = put(list, small, lo, i, wide(v[i]));
         i += 1;
     }
     lo

@@ -18,7 +18,7 @@ use Rattle.laws.specs.TreeOf.{tree-by-pairs, tree-leaves}
 use Rattle.shuffle_laws.specs.Rows.{Turned, turned-grown, renamedRows, renamed-rows}
 use Rattle.shuffle_laws.specs.Taken.{new-no-fault}
 use Rattle.table.specs.Rows.{first, second, rows-length, parent-at}
-use Rattle.table.specs.Children.{pairs-count}
+use Rattle.table.specs.Numbered.{pairs-count}
 use Rattle.table.specs.Accepted.{pairs-accepted}
 use Rattle.table.specs.Grown.{pairs-tree}
 use Rattle.reading.specs.Children.{Children}

@@ -19,7 +19,7 @@ use Rattle.merging.specs.Greedy.{Under, under-pairs}
 use Rattle.merging.specs.Named.{named, Good, good}
 use Rattle.merges.specs.Built.{valid-bounded}
 use Rattle.table.specs.Rows.{rows-length}
-use Rattle.table.specs.Children.{pairs-count}
+use Rattle.table.specs.Numbered.{pairs-count}
 
 -- The names that are left have nodes of their own: below p, and named by no row so far.
 pub record Fresh (P : List Merge) (p : ℕ) (number : ℕ → ℕ) (used : ℕ → Bool) : Type 0 where

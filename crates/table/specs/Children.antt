@@ -1,237 +1,66 @@
--- The loop that numbers the merges: after t rows, number has the node of each name.
--- Main definitions: heldMerges, heldRows, Held, Numbered. Main results: numbered-start, turn, numbered-next, numbered-end.
-use mathlib.Core.Path.{_≡_, refl, sym, ap, ap₂, _∙_}
-use mathlib.Core.Bool.{Bool, true, false, cond}
-use mathlib.Core.List.{List, _∷_, _++_, map}
-use Prim.Native.Nat.{ℕ, suc, _+_, _-_, _≤_, _<_}
-use native.Mathlib.Numerals.{add-one}
+-- The loop that writes the children of the rows into two lists.
+-- Main definition: Columns. Main results: columns-start, columns-next, columns-end.
+use mathlib.Core.Path.{_≡_, refl, sym, ap, _∙_}
+use mathlib.Core.List.{List, _++_, map}
+use Prim.Native.Nat.{ℕ, _+_, _-_, _≤_, _<_}
 use native.Mathlib.Omega.{arith}
-use lib.Dec.{eqb}
-use lib.ListN.{length, take, drop, getD, set, length-map, length-take, length-drop, length-set, List·getD-map}
-use lib.Seq.{drop-cons, drop-drop, getD-drop, getD-set-same, getD-set-other, take-all}
-use borrow.Author.Tests.{eqb-true, eqb-false}
-use Rattle.rules.specs.Vector.{entry, Valid}
-use Rattle.rules.specs.Building.{Merge}
-use Rattle.rules.specs.Table.{Row, rowsFrom}
+use lib.ListN.{length, drop, getD, set, length-map, length-set, List·getD-map}
+use lib.Seq.{take-all}
+use Rattle.rules.specs.Table.{Row}
 use Rattle.vector.specs.Front.{mix, mix-start, mix-step}
-use Rattle.merging.specs.Insertion.{pairsOf, pairs}
-use Rattle.merging.specs.Greedy.{under-pairs}
-use Rattle.merging.specs.Named.{rising}
-use Rattle.merges.specs.Held.{held, merge-at, pairs-long}
-use Rattle.merges.specs.Built.{valid-bounded}
-use Rattle.table.specs.Rows.{first, second, Inside, inside, inside-drop, inside-at, rows-length, rows-cong}
+use Rattle.table.specs.Rows.{first, second}
+use Rattle.table.specs.Numbered.{heldRows, rows-long, Held, Numbered, numbered-start, numbered-next, row-at}
 
--- the merges that the two lists hold
-unfoldable pub heldMerges : List ℕ → List ℕ → ℕ → ℕ → List Merge
-heldMerges list small start n = map (held small) (take (n - 1) (drop start list))
-
--- and their rows
-unfoldable pub heldRows : List ℕ → List ℕ → ℕ → ℕ → List Row
-unfolding heldMerges
-heldRows list small start n = rowsFrom n (λ c. c) (heldMerges list small start n)
-
--- what the loop is given
-pub record Held (list small : List ℕ) (start n : ℕ) (number left right : List ℕ) : Type 0 where
-  pub some : 1 ≤ n
-  pub few : n ≤ 1024
-  pub in-list : start + (n - 1) ≤ length list
-  pub in-small : n ≤ length small
-  pub in-number : n ≤ length number
-  pub in-left : n - 1 ≤ length left
-  pub in-right : n - 1 ≤ length right
-  pub names : Inside n (heldMerges list small start n)
-  pub itself : (c : ℕ) → c < n → getD number c 0 ≡ c
-
-pub held-long : {list small : List ℕ} {start n : ℕ} {number left right : List ℕ} → Held list small start n number left right → length (heldMerges list small start n) ≡ n - 1
-unfolding heldMerges
-held-long {list} {small} {start} {n} H =
-    omega (arith, H .in-list, length-map (take (n - 1) (drop start list)) (held small), length-take (n - 1) (drop start list), length-drop start list)
-
-pub rows-long : {list small : List ℕ} {start n : ℕ} {number left right : List ℕ} → Held list small start n number left right → length (heldRows list small start n) ≡ n - 1
-unfolding heldRows
-rows-long {list} {small} {start} {n} H = rows-length n (λ c. c) (heldMerges list small start n) ∙ held-long H
-
--- the first t rows are done
-pub record Numbered (list small : List ℕ) (start n : ℕ) (number₀ left₀ right₀ number left right : List ℕ) (t : ℕ) : Type 0 where
-  pub given : Held list small start n number₀ left₀ right₀
-  pub high : t ≤ n - 1
-  pub same-number : length number ≡ length number₀
+-- the children of the first t rows are written
+pub record Columns (list small : List ℕ) (start n : ℕ) (number₀ left₀ right₀ number left right : List ℕ) (t : ℕ) : Type 0 where
+  pub numbered : Numbered list small start n number₀ number t
+  pub in-left : n - 1 ≤ length left₀
+  pub in-right : n - 1 ≤ length right₀
   pub same-left : length left ≡ length left₀
   pub same-right : length right ≡ length right₀
-  pub ahead : drop t (heldRows list small start n) ≡ rowsFrom (n + t) (λ c. getD number c 0) (drop t (heldMerges list small start n))
   pub lefts : left ≡ mix t (map first (heldRows list small start n)) left₀
   pub rights : right ≡ mix t (map second (heldRows list small start n)) right₀
 
-pub numbered-start : {list small : List ℕ} {start n : ℕ} {number left right : List ℕ} → Held list small start n number left right → Numbered list small start n number left right number left right 0
-unfolding heldRows
-numbered-start {list} {small} {start} {n} {number} {left} {right} H =
-    let z : n + 0 ≡ n = omega arith in
-    record {
-      given = H;
-      high = omega arith;
-      same-number = refl;
-      same-left = refl;
-      same-right = refl;
-      ahead = rw z (rows-cong n n (λ c. c) (λ c. getD number c 0) (heldMerges list small start n) (λ c h. sym (H .itself c h)) (H .names));
-      lefts = mix-start (map first (heldRows list small start n)) left;
-      rights = mix-start (map second (heldRows list small start n)) right;
-    }
-
--- the numbers of a turn: a and b are the names of merge t
-pub record Turn (list small : List ℕ) (start n : ℕ) (number left right : List ℕ) (t a b : ℕ) : Type 0 where
-  pub merge : getD (heldMerges list small start n) t (0, 0) ≡ (a, b)
-  pub name-a : a < n
-  pub name-b : b < n
-  pub few : n ≤ 1024
-  pub in-small : b < length small
-  pub a-in-number : a < length number
-  pub b-in-number : b < length number
-  pub in-left : t < length left
-  pub in-right : t < length right
-
-pub turn : {list small : List ℕ} {start n : ℕ} {number₀ left₀ right₀ number left right : List ℕ} {t a b : ℕ} → Numbered list small start n number₀ left₀ right₀ number left right t → t < n - 1 → b ≡ getD list (start + t) 0 → a ≡ getD small b 0 → Turn list small start n number left right t a b
-unfolding heldMerges
-turn {list} {small} {start} {n} {number₀} {left₀} {right₀} {number} {left} {right} {t} {a} {b} N h eb ea =
-    let H = N .given in
-    let P = heldMerges list small start n in
-    let room = H .in-list in
-    let e : getD P t (0, 0) ≡ (a, b) =
-    merge-at list small start (n - 1) P refl t h (omega (arith, length-take (n - 1) (drop start list), length-drop start list))
-    ∙ ap₂ (λ (x y : ℕ). (x, y)) (sym (rw eb at ea)) (sym eb) in
-    let i = inside-at n P (H .names) t (omega (arith, held-long H)) in
-    let la : a < n = omega (arith, i .0, ap (λ (m : Merge). m .0) e) in
-    let lb : b < n = omega (arith, i .1, ap (λ (m : Merge). m .1) e) in
-    record {
-      merge = e;
-      name-a = la;
-      name-b = lb;
-      few = H .few;
-      in-small = omega (arith, H .in-small);
-      a-in-number = omega (arith, H .in-number, N .same-number);
-      b-in-number = omega (arith, H .in-number, N .same-number);
-      in-left = omega (arith, H .in-left, N .same-left);
-      in-right = omega (arith, H .in-right, N .same-right);
-    }
-
--- the node of the merged cluster
-renumbered : (number : List ℕ) (a q c : ℕ) → a < length number → cond (eqb c a) q (getD number c 0) ≡ getD (set number a q) c 0
-renumbered number a q c h = go (eqb c a) refl
-  where
-    go : (b : Bool) → eqb c a ≡ b → cond b q (getD number c 0) ≡ getD (set number a q) c 0
-    go true e = let z = eqb-true c a e in rw z (sym (getD-set-same number a q 0 h))
-    go false e = sym (getD-set-other number a c q 0 (eqb-false c a e))
-
--- row t, and the rows behind it
-module _ {list small : List ℕ} {start n : ℕ} {number₀ left₀ right₀ number left right : List ℕ} {t a b : ℕ} where
-  row-here : Numbered list small start n number₀ left₀ right₀ number left right t → t < n - 1 → Turn list small start n number left right t a b
-      → drop t (heldRows list small start n)
-      ≡ (getD number a 0, getD number b 0, n + t) ∷ rowsFrom (n + t + 1) (λ c. cond (eqb c a) (n + t) (getD number c 0)) (drop (suc t) (heldMerges list small start n))
-  unfolding rowsFrom
-  row-here N h T =
-      let P = heldMerges list small start n in
-      let e : drop t P ≡ (a, b) ∷ drop (suc t) P =
-      drop-cons P t (0, 0) (omega (arith, held-long (N .given))) ∙ ap (λ (m : Merge). m ∷ drop (suc t) P) (T .merge) in
-      N .ahead ∙ ap (rowsFrom (n + t) (λ c. getD number c 0)) e
-
-  row-at : Numbered list small start n number₀ left₀ right₀ number left right t → t < n - 1 → Turn list small start n number left right t a b
-      → getD (heldRows list small start n) t (0, 0, 0) ≡ (getD number a 0, getD number b 0, n + t)
-  row-at N h T =
-      let z : t + 0 ≡ t = omega arith in
-      sym (rw z at (getD-drop t (heldRows list small start n) 0 (0, 0, 0))) ∙ ap (λ (rs : List Row). getD rs 0 (0, 0, 0)) (row-here N h T)
-
-  pub numbered-next : Numbered list small start n number₀ left₀ right₀ number left right t → t < n - 1 → b ≡ getD list (start + t) 0 → a ≡ getD small b 0
-      → Numbered list small start n number₀ left₀ right₀ (set number a (n + t)) (set left t (getD number a 0)) (set right t (getD number b 0)) (t + 1)
-  numbered-next N h eb ea =
-      let T = turn N h eb ea in
-      let H = N .given in
-      let rows = heldRows list small start n in
-      let P = heldMerges list small start n in
-      let long = rows-long H in
-      let in-left = T .in-left in
-      let in-right = T .in-right in
-      let z : n + (t + 1) ≡ n + t + 1 = omega arith in
-      let l : getD number a 0 ≡ getD (map first rows) t 0 = sym (List·getD-map first rows t (0, 0, 0) ∙ ap first (row-at N h T)) in
-      let r : getD number b 0 ≡ getD (map second rows) t 0 = sym (List·getD-map second rows t (0, 0, 0) ∙ ap second (row-at N h T)) in
-      record {
-        given = H;
-        high = omega arith;
-        same-number = length-set number a (n + t) ∙ N .same-number;
-        same-left = length-set left t (getD number a 0) ∙ N .same-left;
-        same-right = length-set right t (getD number b 0) ∙ N .same-right;
-        ahead =
-            rw z
-            (sym (drop-drop 1 t rows) ∙ ap (drop 1) (row-here N h T)
-            ∙ rw (add-one t)
-            (rows-cong n (n + t + 1) (λ c. cond (eqb c a) (n + t) (getD number c 0)) (λ c. getD (set number a (n + t)) c 0) (drop (suc t) P)
-            (λ c g. renumbered number a (n + t) c (T .a-in-number)) (inside-drop n (suc t) P (H .names))));
-        lefts =
-            rw (l, N .lefts)
-            (mix-step (map first rows) left₀ t (omega (arith, length-map rows first)) (omega (arith, N .same-left)));
-        rights =
-            rw (r, N .rights)
-            (mix-step (map second rows) right₀ t (omega (arith, length-map rows second)) (omega (arith, N .same-right)));
-      }
-
-pub numbered-end : {list small : List ℕ} {start n : ℕ} {number₀ left₀ right₀ number left right : List ℕ} {t : ℕ} → Numbered list small start n number₀ left₀ right₀ number left right t → n - 1 ≤ t
-    → (left ≡ map first (heldRows list small start n) ++ drop (n - 1) left₀) × (right ≡ map second (heldRows list small start n) ++ drop (n - 1) right₀)
-unfolding mix
-numbered-end {list} {small} {start} {n} {number₀} {left₀} {right₀} {number} {left} {right} {t} N h =
-    let rows = heldRows list small start n in
-    let long = rows-long (N .given) in
-    let z : t ≡ n - 1 = omega arith in (
-      rw z at (N .lefts) ∙ ap (λ (l : List ℕ). l ++ drop (n - 1) left₀) (take-all (n - 1) (map first rows) (omega (arith, length-map rows first))),
-      rw z at (N .rights) ∙ ap (λ (l : List ℕ). l ++ drop (n - 1) right₀) (take-all (n - 1) (map second rows) (omega (arith, length-map rows second))),
-    )
-
--- the loop that numbers the leaves
-pub record Leaves (n : ℕ) (number₀ number : List ℕ) (c : ℕ) : Type 0 where
-  pub few : n ≤ 1024
-  pub room : n ≤ length number₀
-  pub high : c ≤ n
-  pub same : length number ≡ length number₀
-  pub itself : (x : ℕ) → x < c → getD number x 0 ≡ x
-
-pub leaves-next : {n : ℕ} {number₀ number : List ℕ} {c : ℕ} → Leaves n number₀ number c → c < n → Leaves n number₀ (set number c c) (c + 1)
-leaves-next {n} {number₀} {number} {c} L h =
-    let room = L .room in
-    record {
-      few = L .few;
-      room = L .room;
-      high = omega arith;
-      same = length-set number c c ∙ L .same;
-      itself = λ x l. go x l (eqb x c) refl;
-    }
-  where
-    go : (x : ℕ) → x < c + 1 → (b : Bool) → eqb x c ≡ b → getD (set number c c) x 0 ≡ x
-    go x l true e = let z = eqb-true x c e in rw z (getD-set-same number c c 0 (omega (arith, L .room, L .same)))
-    go x l false e = let z = eqb-false x c e in getD-set-other number c x c 0 z ∙ L .itself x (omega arith)
-
--- the names of a vector's merges are its leaves
-pub pairs-inside : (v : List ℕ) → Valid v → Inside (length v) (pairs v)
-unfolding pairs
-pairs-inside v ok =
-    inside (length v) (pairsOf (entry v) (length v)) (under-pairs (entry v) (length v)) (rising (entry v) (length v) (valid-bounded v (length v) ok (omega arith)))
-
-pub held-of : {v list small : List ℕ} {start : ℕ} {number left right : List ℕ} → Valid v → length v ≤ 1024 → start + (length v - 1) ≤ 2080
-    → map (held small) (take (length v - 1) (drop start list)) ≡ pairs v → length list ≡ 2080 → length small ≡ 1024 → length number ≡ 1024
-    → length left ≡ 1024 → length right ≡ 1024 → ((c : ℕ) → c < length v → getD number c 0 ≡ c) → Held list small start (length v) number left right
-unfolding heldMerges
-held-of {v} ok few room e ll ls ln l r itself = record {
-  some = ok .some-leaf;
-  few = few;
-  in-list = omega arith;
-  in-small = omega arith;
-  in-number = omega arith;
-  in-left = omega arith;
-  in-right = omega arith;
-  names = rw e (pairs-inside v ok);
-  itself = itself;
+pub columns-start : {list small : List ℕ} {start n : ℕ} {number left right : List ℕ} → Held list small start n number → n - 1 ≤ length left → n - 1 ≤ length right
+    → Columns list small start n number left right number left right 0
+columns-start {list} {small} {start} {n} {number} {left} {right} H l r = record {
+  numbered = numbered-start H;
+  in-left = l;
+  in-right = r;
+  same-left = refl;
+  same-right = refl;
+  lefts = mix-start (map first (heldRows list small start n)) left;
+  rights = mix-start (map second (heldRows list small start n)) right;
 }
 
-pub rows-of-pairs : (v list small : List ℕ) (start : ℕ) → map (held small) (take (length v - 1) (drop start list)) ≡ pairs v → heldRows list small start (length v) ≡ rowsFrom (length v) (λ c. c) (pairs v)
-unfolding heldRows heldMerges
-rows-of-pairs v list small start e = rw e
+pub columns-next : {list small : List ℕ} {start n : ℕ} {number₀ left₀ right₀ number left right : List ℕ} {t a b : ℕ} → Columns list small start n number₀ left₀ right₀ number left right t
+    → t < n - 1 → b ≡ getD list (start + t) 0 → a ≡ getD small b 0
+    → Columns list small start n number₀ left₀ right₀ (set number a (n + t)) (set left t (getD number a 0)) (set right t (getD number b 0)) (t + 1)
+columns-next {list} {small} {start} {n} {number₀} {left₀} {right₀} {number} {left} {right} {t} {a} {b} C h eb ea =
+    let N = C .numbered in
+    let rows = heldRows list small start n in
+    let long = rows-long (N .given) in
+    let in-left = C .in-left in
+    let in-right = C .in-right in
+    let l : getD number a 0 ≡ getD (map first rows) t 0 = sym (List·getD-map first rows t (0, 0, 0) ∙ ap first (row-at N h eb ea)) in
+    let r : getD number b 0 ≡ getD (map second rows) t 0 = sym (List·getD-map second rows t (0, 0, 0) ∙ ap second (row-at N h eb ea)) in
+    record {
+      numbered = numbered-next N h eb ea;
+      in-left = C .in-left;
+      in-right = C .in-right;
+      same-left = length-set left t (getD number a 0) ∙ C .same-left;
+      same-right = length-set right t (getD number b 0) ∙ C .same-right;
+      lefts = rw (l, C .lefts) (mix-step (map first rows) left₀ t (omega (arith, length-map rows first)) (omega arith));
+      rights = rw (r, C .rights) (mix-step (map second rows) right₀ t (omega (arith, length-map rows second)) (omega arith));
+    }
 
-pub pairs-count : (v : List ℕ) → Valid v → length (pairs v) ≡ length v - 1
-unfolding pairs
-pairs-count v ok = pairs-long (entry v) (length v) (ok .some-leaf)
+pub columns-end : {list small : List ℕ} {start n : ℕ} {number₀ left₀ right₀ number left right : List ℕ} {t : ℕ} → Columns list small start n number₀ left₀ right₀ number left right t → n - 1 ≤ t
+    → (left ≡ map first (heldRows list small start n) ++ drop (n - 1) left₀) × (right ≡ map second (heldRows list small start n) ++ drop (n - 1) right₀)
+unfolding mix
+columns-end {list} {small} {start} {n} {number₀} {left₀} {right₀} {number} {left} {right} {t} C h =
+    let rows = heldRows list small start n in
+    let long = rows-long (C .numbered .given) in
+    let z : t ≡ n - 1 = omega (arith, C .numbered .high) in (
+      rw z at (C .lefts) ∙ ap (λ (l : List ℕ). l ++ drop (n - 1) left₀) (take-all (n - 1) (map first rows) (omega (arith, length-map rows first))),
+      rw z at (C .rights) ∙ ap (λ (l : List ℕ). l ++ drop (n - 1) right₀) (take-all (n - 1) (map second rows) (omega (arith, length-map rows second))),
+    )

@@ -1,4 +1,5 @@
 pub mod Rows
+pub mod Numbered
 pub mod Children
 pub mod Written
 pub mod Accepted

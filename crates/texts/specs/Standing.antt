@@ -24,7 +24,7 @@ use Rattle.grammar.specs.Length.{textLength, text-length}
 use Rattle.grammar.specs.Nodes.{tied, treeAt, wholeTree, tree-whole}
 use Rattle.table.specs.Rows.{first, second, rows-length, tied-rows}
 use Rattle.table.specs.Rows as rows
-use Rattle.table.specs.Children.{pairs-count}
+use Rattle.table.specs.Numbered.{pairs-count}
 use Rattle.table.specs.Accepted.{renumber, smaller-named, larger-named, still-named, named-below, ChildrenBelow, pairs-below}
 use Rattle.table.specs.Grown.{pairs-tree}
 use Rattle.newick.specs.Output.{Ordered, Wrote}

@@ -2,21 +2,22 @@
 use mathlib.Core.Path.{refl}
 use Prim.Native.Nat.{_-_, _<_}
 use lib.ListN.{length}
-use Rattle.table.specs.Children.{Numbered, numbered-start, numbered-next, numbered-end, Turn, turn}
+use Rattle.table.specs.Numbered.{Turn, turn}
+use Rattle.table.specs.Children.{Columns, columns-start, columns-next, columns-end}
 use native.Mathlib.Omega.{arith}
 use borrow.Author.Needs.{needs}
 use Rattle.table.proofs.children.Statement.{statement}
 use Rattle.table.proofs.children.Tie as tie
 
 abbrev Inv-loop : tie.InvT-loop
-Inv-loop list small start n number₀ left₀ right₀ last t₀ number left right t = Numbered list small start n number₀ left₀ right₀ number left right t
+Inv-loop list small start n number₀ left₀ right₀ last t₀ number left right t = Columns list small start n number₀ left₀ right₀ number left right t
 
 abbrev μ-loop : tie.MeasureT-loop
 μ-loop list small start n number₀ left₀ right₀ last t₀ number left right t = n - 1 - t
 
 -- the numbers of a turn
-here : (c : tie.After-wide2 Inv-loop μ-loop) → Turn (c .before .before .before .before .before .before .before .before .before .before .before .args .list .now) (c .before .before .before .before .before .before .before .before .before .before .before .args .small .now) (c .before .before .before .before .before .before .before .before .before .before .before .args .start) (c .before .before .before .before .before .before .before .before .before .before .before .args .n) (c .before .before .before .before .before .loop .number) (c .before .before .before .before .before .loop .left) (c .before .before .before .before .before .loop .right) (c .before .before .before .before .before .loop .t) (c .wide2 .result) (c .before .before .wide .result)
-here c = turn (c .before .before .before .before .before .loop .inv) (c .before .before .before .before .loop-test .taken) (c .before .before .wide .ensures) (c .wide2 .ensures)
+here : (c : tie.After-wide2 Inv-loop μ-loop) → Turn (c .before .before .before .before .before .before .before .before .before .before .before .args .list .now) (c .before .before .before .before .before .before .before .before .before .before .before .args .small .now) (c .before .before .before .before .before .before .before .before .before .before .before .args .start) (c .before .before .before .before .before .before .before .before .before .before .before .args .n) (c .before .before .before .before .before .loop .number) (c .before .before .before .before .before .loop .t) (c .wide2 .result) (c .before .before .wide .result)
+here c = turn (c .before .before .before .before .before .loop .inv .numbered) (c .before .before .before .before .loop-test .taken) (c .before .before .wide .ensures) (c .wide2 .ensures)
 
 -- both names of the merge have a number
 named : (c : tie.After-wide2 Inv-loop μ-loop) → (c .wide2 .result < length (c .before .before .before .before .before .loop .number)) × (c .before .before .wide .result < length (c .before .before .before .before .before .loop .number)) × (c .wide2 .result < 1024) × (c .before .before .wide .result < 1024)
@@ -28,28 +29,28 @@ named c =
     (T .a-in-number, T .b-in-number, omega arith, omega arith)
 
 sub-last : tie.Need-sub-last Inv-loop μ-loop
-sub-last c = c .before .before .before .before .before .pre .some
+sub-last c = c .before .before .before .before .before .pre .0 .some
 
 loop-holds : tie.Need-loop-holds Inv-loop μ-loop
-loop-holds c = numbered-start (c .before .before .before .before .before .pre)
+loop-holds c = let p = c .before .before .before .before .before .pre in columns-start (p .0) (p .1) (p .2)
 
 add-wide : tie.Need-add-wide Inv-loop μ-loop
-add-wide c = omega (arith, c .before .loop .inv .given .in-list)
+add-wide c = omega (arith, c .before .loop .inv .numbered .given .in-list)
 
 mul-wide : tie.Need-mul-wide Inv-loop μ-loop
 mul-wide c = search needs
 
 shared-slice-read-wide : tie.Need-shared-slice-read-wide Inv-loop μ-loop
-shared-slice-read-wide c = omega (arith, c .before .before .loop .inv .given .in-list)
+shared-slice-read-wide c = omega (arith, c .before .before .loop .inv .numbered .given .in-list)
 
 wide-requires : tie.Need-wide-requires Inv-loop μ-loop
 wide-requires c κs = search needs
 
 mul-wide-2 : tie.Need-mul-wide-2 Inv-loop μ-loop
-mul-wide-2 c = let T = turn (c .before .before .before .loop .inv) (c .before .before .loop-test .taken) (c .wide .ensures) refl in let name = T .name-b in let few = T .few in omega arith
+mul-wide-2 c = let T = turn (c .before .before .before .loop .inv .numbered) (c .before .before .loop-test .taken) (c .wide .ensures) refl in let name = T .name-b in let few = T .few in omega arith
 
 shared-slice-read-wide-2 : tie.Need-shared-slice-read-wide-2 Inv-loop μ-loop
-shared-slice-read-wide-2 c = turn (c .before .before .before .before .loop .inv) (c .before .before .before .loop-test .taken) (c .before .wide .ensures) refl .in-small
+shared-slice-read-wide-2 c = turn (c .before .before .before .before .loop .inv .numbered) (c .before .before .before .loop-test .taken) (c .before .wide .ensures) refl .in-small
 
 wide-requires-2 : tie.Need-wide-requires-2 Inv-loop μ-loop
 wide-requires-2 c κs = search needs
@@ -64,7 +65,7 @@ mul-left-2 : tie.Need-mul-left-2 Inv-loop μ-loop
 mul-left-2 c = search needs
 
 slice-write-left : tie.Need-slice-write-left Inv-loop μ-loop
-slice-write-left c = here (c .before) .in-left
+slice-write-left c = omega (arith, c .before .before .before .before .before .before .loop .inv .in-left, c .before .before .before .before .before .before .loop .inv .same-left, c .before .before .before .before .before .loop-test .taken)
 
 mul-right : tie.Need-mul-right Inv-loop μ-loop
 mul-right c = let m = named (c .before) in omega arith
@@ -76,7 +77,7 @@ mul-right-2 : tie.Need-mul-right-2 Inv-loop μ-loop
 mul-right-2 c = search needs
 
 slice-write-right : tie.Need-slice-write-right Inv-loop μ-loop
-slice-write-right c = here (c .before .before) .in-right
+slice-write-right c = omega (arith, c .before .before .before .before .before .before .before .loop .inv .in-right, c .before .before .before .before .before .before .before .loop .inv .same-right, c .before .before .before .before .before .before .loop-test .taken)
 
 add-number : tie.Need-add-number Inv-loop μ-loop
 add-number c = let T = here (c .before .before) in let few = T .few in omega arith
@@ -97,10 +98,10 @@ loop-less : tie.Need-loop-less Inv-loop μ-loop
 loop-less c = search needs
 
 loop-again : tie.Need-loop-again Inv-loop μ-loop
-loop-again c = numbered-next (c .before .before .before .before .before .before .before .loop .inv) (c .before .before .before .before .before .before .loop-test .taken) (c .before .before .before .before .wide .ensures) (c .before .before .wide2 .ensures)
+loop-again c = columns-next (c .before .before .before .before .before .before .before .loop .inv) (c .before .before .before .before .before .before .loop-test .taken) (c .before .before .before .before .wide .ensures) (c .before .before .wide2 .ensures)
 
 same-length : tie.Need-same-length Inv-loop μ-loop
-same-length c = c .before .loop .inv .same-number
+same-length c = c .before .loop .inv .numbered .same-number
 
 same-length-2 : tie.Need-same-length-2 Inv-loop μ-loop
 same-length-2 c = c .before .loop .inv .same-left
@@ -109,7 +110,7 @@ same-length-3 : tie.Need-same-length-3 Inv-loop μ-loop
 same-length-3 c = c .before .loop .inv .same-right
 
 returns : tie.Need-returns Inv-loop μ-loop
-returns c = numbered-end (c .before .loop .inv) (c .loop-test .left)
+returns c = columns-end (c .before .loop .inv) (c .loop-test .left)
 
 pub children-spec : {M : Type 1} → statement M
 children-spec =

@@ -1,7 +1,7 @@
 -- `number_leaves` meets its contract: the leaves below c have their numbers.
 use mathlib.Core.Path.{refl}
 use Prim.Native.Nat.{_-_}
-use Rattle.table.specs.Children.{Leaves, leaves-next}
+use Rattle.table.specs.Numbered.{Leaves, leaves-next}
 use native.Mathlib.Omega.{arith}
 use borrow.Author.Needs.{needs}
 use Rattle.table.proofs.number_leaves.Statement.{statement}

@@ -1,0 +1,112 @@
+-- `put` meets its contract: an entry that names a leaf, and any other.
+use Prim.Native.Nat.{_+_, _-_}
+use Rattle.merges.specs.Built.{put-front, put-behind}
+use native.Mathlib.Omega.{arith}
+use borrow.Author.Needs.{needs}
+use Rattle.merges.proofs.put.Statement.{statement}
+use Rattle.merges.proofs.put.Tie as tie
+
+sub-front : tie.Need-sub-front
+sub-front c = search needs
+
+cast-small : tie.Need-cast-small
+cast-small c = search needs
+
+mul-small : tie.Need-mul-small
+mul-small c = search needs
+
+slice-write-small : tie.Need-slice-write-small
+slice-write-small c = search needs
+
+cast-list : tie.Need-cast-list
+cast-list c = search needs
+
+mul-list : tie.Need-mul-list
+mul-list c = search needs
+
+slice-write-list : tie.Need-slice-write-list
+slice-write-list c = search needs
+
+same-length : tie.Need-same-length
+same-length c = search needs
+
+same-length-2 : tie.Need-same-length-2
+same-length-2 c = search needs
+
+returns : tie.Need-returns
+returns c = put-front (c .before .before .before .pre) (c .if1 .taken)
+
+add-wide : tie.Need-add-wide
+add-wide c = search needs
+
+mul-wide : tie.Need-mul-wide
+mul-wide c = search needs
+
+slice-read-wide : tie.Need-slice-read-wide
+slice-read-wide c = search needs
+
+wide-requires : tie.Need-wide-requires
+wide-requires c κs = search needs
+
+mul-small-2 : tie.Need-mul-small-2
+mul-small-2 c = omega (arith, c .wide .ensures, c .before .slice-known3 .given (c .before .before .before .before .before .args .lo + (c .before .before .before .before .before .args .x - c .before .before .before .before .before .args .i)))
+
+slice-read-small : tie.Need-slice-read-small
+slice-read-small c = omega (arith, c .before .wide .ensures, c .before .before .before .before .before .before .pre .finds (c .before .before .before .if1 .left))
+
+mul-small-3 : tie.Need-mul-small-3
+mul-small-3 c = search needs
+
+slice-write-small-2 : tie.Need-slice-write-small-2
+slice-write-small-2 c = search needs
+
+sub-insert : tie.Need-sub-insert
+sub-insert c = search needs
+
+add-insert : tie.Need-add-insert
+add-insert c = search needs
+
+cast-insert : tie.Need-cast-insert
+cast-insert c = search needs
+
+insert-requires : tie.Need-insert-requires
+insert-requires c κs = search needs
+
+same-length-3 : tie.Need-same-length-3
+same-length-3 c = search needs
+
+same-length-4 : tie.Need-same-length-4
+same-length-4 c = search needs
+
+returns-2 : tie.Need-returns-2
+returns-2 c = let e = c .before .before .insert .ensures in rw (c .before .before .before .before .before .wide .ensures) (put-behind (c .before .before .before .before .before .before .before .before .before .before .pre) (c .before .before .before .before .before .before .before .if1 .left) (e .0) (e .1) (e .2))
+
+pub put-spec : {M : Type 1} → statement M
+put-spec =
+    tie.close
+    (tie.spec
+    sub-front
+    cast-small
+    mul-small
+    slice-write-small
+    cast-list
+    mul-list
+    slice-write-list
+    same-length
+    same-length-2
+    returns
+    add-wide
+    mul-wide
+    slice-read-wide
+    wide-requires
+    mul-small-2
+    slice-read-small
+    mul-small-3
+    slice-write-small-2
+    sub-insert
+    add-insert
+    cast-insert
+    insert-requires
+    same-length-3
+    same-length-4
+    returns-2)
