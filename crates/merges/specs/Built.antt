@@ -84,14 +84,14 @@ put-front {list} {small} {lo} {i} {x} T h =
     }
 
 -- any other goes right behind the merge that it counts, and has its smaller name
-pub put-behind : {list small list′ : List ℕ} {lo i x lo′ : ℕ} → Turn list small lo i x → i ≤ x → lo′ ≤ lo → lo ≤ lo′ + 1 → take (i - 1 + 1) (drop lo′ list′) ≡ ins (x - i + 1) i (take (i - 1) (drop lo list))
-    → Put list small lo i x list′ (set small i (getD small (getD list (lo + (x - i)) 0) 0)) lo′
+pub put-behind : {list small list′ : List ℕ} {lo i x d lo′ : ℕ} → i ≤ x → d ≡ x - i → lo′ ≤ lo → lo ≤ lo′ + 1 → take (i - 1 + 1) (drop lo′ list′) ≡ ins (d + 1) i (take (i - 1) (drop lo list))
+    → Put list small lo i x list′ (set small i (getD small (getD list (lo + d) 0) 0)) lo′
 unfolding place nameAt
-put-behind {list} {small} {list′} {lo} {i} {x} {lo′} T h u d e = record {
+put-behind {list} {small} {list′} {lo} {i} {x} {d} {lo′} h q u w e = record {
   up = u;
-  down = d;
-  larger = rw (le-ltb x i h) e;
-  smaller = rw (le-ltb x i h);
+  down = w;
+  larger = rw (le-ltb x i h, sym q) e;
+  smaller = rw (le-ltb x i h, sym q);
 }
 
 pub turn : {v list small : List ℕ} {lo i x : ℕ} → Built v list small lo i → i < length v → x ≡ getD v i 0 → Turn list small lo i x

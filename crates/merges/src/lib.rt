@@ -61,19 +61,21 @@ fn insert(list: &mut [u16], lo: usize, m: usize, s: usize, w: u16) -> usize
 
 // Puts leaf i's merge, where its entry is x, among the i-1 merges before: its smaller name into small, its larger name into the
 // list that starts at lo. The result is where the list starts then. An entry that names a leaf moves nothing, and so do half of
-// all entries of a random tree: that case comes first.
-fn put(list: &mut [u16], small: &mut [u16], lo: usize, i: usize, x: usize) -> usize
+// all entries of a random tree: that case comes first. The difference is taken in 16 bits, so that the compiler does not carry
+// four sums of it from leaf to leaf.
+fn put(list: &mut [u16], small: &mut [u16], lo: usize, i: usize, x: u16) -> usize
     requires { ⌜ Turn (now list) (now small) lo i x ⌝ }
     ensures { λ r. ⌜ Put (now (list .entry)) (now (small .entry)) lo i x (now (list .exit)) (now (small .exit)) r ⌝ }
 {
-    if x < i {
+    if wide(x) < i {
         let front = lo - 1;
-        small[i] = x as u16;
+        small[i] = x;
         list[front] = i as u16;
         return front;
     }
-    small[i] = small[wide(list[lo + (x - i)])];
-    insert(list, lo, i - 1, x - i + 1, i as u16)
+    let d = wide(x - i as u16);
+    small[i] = small[wide(list[lo + d])];
+    insert(list, lo, i - 1, d + 1, i as u16)
 }
 
 // Writes the merges of v: their larger names into list, which grows at both ends from its middle, and for each of them the
@@ -87,7 +89,7 @@ pub fn merges(v: &[u16], list: &mut [u16], small: &mut [u16]) -> usize
     let mut lo: usize = 1040;
     let mut i: usize = 1;
     while i < n {
-        lo = put(list, small, lo, i, wide(v[i]));
+        lo = put(list, small, lo, i, v[i]);
         i += 1;
     }
     lo

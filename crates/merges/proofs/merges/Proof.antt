@@ -1,4 +1,5 @@
 -- `merges` meets its contract: the lists hold the merges of the first i entries.
+use mathlib.Core.Path.{refl}
 use Prim.Native.Nat.{_-_}
 use Rattle.merges.specs.Built.{Built, built-start, built-next, built-end, turn}
 use native.Mathlib.Omega.{arith}
@@ -15,17 +16,14 @@ abbrev μ-loop : tie.MeasureT-loop
 loop-holds : tie.Need-loop-holds Inv-loop μ-loop
 loop-holds c = let p = c .before .before .before .pre in built-start (p .0) (p .1) (p .2) (p .3)
 
-mul-wide : tie.Need-mul-wide Inv-loop μ-loop
-mul-wide c = search needs
+mul-put : tie.Need-mul-put Inv-loop μ-loop
+mul-put c = search needs
 
-shared-slice-read-wide : tie.Need-shared-slice-read-wide Inv-loop μ-loop
-shared-slice-read-wide c = search needs
-
-wide-requires : tie.Need-wide-requires Inv-loop μ-loop
-wide-requires c κs = search needs
+shared-slice-read-put : tie.Need-shared-slice-read-put Inv-loop μ-loop
+shared-slice-read-put c = search needs
 
 put-requires : tie.Need-put-requires Inv-loop μ-loop
-put-requires c κs = turn (c .before .before .before .before .before .loop .inv) (c .before .before .before .before .loop-test .taken) (c .wide .ensures)
+put-requires c κs = turn (c .before .before .before .before .loop .inv) (c .before .before .before .loop-test .taken) refl
 
 add-i : tie.Need-add-i Inv-loop μ-loop
 add-i c = search needs
@@ -34,7 +32,7 @@ loop-less : tie.Need-loop-less Inv-loop μ-loop
 loop-less c = search needs
 
 loop-again : tie.Need-loop-again Inv-loop μ-loop
-loop-again c = built-next (c .before .before .before .before .before .before .before .before .before .before .loop .inv) (c .before .before .before .before .before .before .before .before .before .loop-test .taken) (c .before .before .before .before .before .wide .ensures) (c .before .before .before .before .put .kept .0) (c .before .before .before .before .put .ensures)
+loop-again c = built-next (c .before .before .before .before .before .before .before .before .before .loop .inv) (c .before .before .before .before .before .before .before .before .loop-test .taken) refl (c .before .before .before .before .put .kept .0) (c .before .before .before .before .put .ensures)
 
 same-length : tie.Need-same-length Inv-loop μ-loop
 same-length c = search needs
@@ -52,9 +50,8 @@ merges-spec =
     Inv-loop
     μ-loop
     loop-holds
-    mul-wide
-    shared-slice-read-wide
-    wide-requires
+    mul-put
+    shared-slice-read-put
     put-requires
     add-i
     loop-less

@@ -1,4 +1,5 @@
 -- `put` meets its contract: an entry that names a leaf, and any other.
+use mathlib.Core.Path.{_≡_, sym}
 use Prim.Native.Nat.{_+_, _-_}
 use Rattle.merges.specs.Built.{put-front, put-behind}
 use native.Mathlib.Omega.{arith}
@@ -6,11 +7,11 @@ use borrow.Author.Needs.{needs}
 use Rattle.merges.proofs.put.Statement.{statement}
 use Rattle.merges.proofs.put.Tie as tie
 
+wide-requires : tie.Need-wide-requires
+wide-requires c κs = search needs
+
 sub-front : tie.Need-sub-front
 sub-front c = search needs
-
-cast-small : tie.Need-cast-small
-cast-small c = search needs
 
 mul-small : tie.Need-mul-small
 mul-small c = search needs
@@ -34,7 +35,16 @@ same-length-2 : tie.Need-same-length-2
 same-length-2 c = search needs
 
 returns : tie.Need-returns
-returns c = put-front (c .before .before .before .pre) (c .if1 .taken)
+returns c = put-front (c .before .before .before .before .pre) (omega (arith, c .if1 .taken, c .before .wide .ensures))
+
+cast-wide : tie.Need-cast-wide
+cast-wide c = search needs
+
+sub-wide : tie.Need-sub-wide
+sub-wide c = search needs
+
+wide-requires-2 : tie.Need-wide-requires-2
+wide-requires-2 c κs = search needs
 
 add-wide : tie.Need-add-wide
 add-wide c = search needs
@@ -45,14 +55,14 @@ mul-wide c = search needs
 slice-read-wide : tie.Need-slice-read-wide
 slice-read-wide c = search needs
 
-wide-requires : tie.Need-wide-requires
-wide-requires c κs = search needs
+wide-requires-3 : tie.Need-wide-requires-3
+wide-requires-3 c κs = search needs
 
 mul-small-2 : tie.Need-mul-small-2
-mul-small-2 c = omega (arith, c .wide .ensures, c .before .slice-known3 .given (c .before .before .before .before .before .args .lo + (c .before .before .before .before .before .args .x - c .before .before .before .before .before .args .i)))
+mul-small-2 c = omega (arith, c .wide3 .ensures, c .before .slice-known3 .given (c .before .before .before .before .before .before .before .args .lo + c .before .before .wide2 .result))
 
 slice-read-small : tie.Need-slice-read-small
-slice-read-small c = omega (arith, c .before .wide .ensures, c .before .before .before .before .before .before .pre .finds (c .before .before .before .if1 .left))
+slice-read-small c = let q : c .before .before .before .wide2 .result ≡ c .before .before .before .before .before .before .before .before .args .x - c .before .before .before .before .before .before .before .before .args .i = c .before .before .before .wide2 .ensures in let f = c .before .before .before .before .before .before .before .before .pre .finds (omega (arith, c .before .before .before .before .if1 .left, c .before .before .before .before .before .wide .ensures)) in omega (arith, c .before .wide3 .ensures, rw (sym q) at f)
 
 mul-small-3 : tie.Need-mul-small-3
 mul-small-3 c = search needs
@@ -79,14 +89,14 @@ same-length-4 : tie.Need-same-length-4
 same-length-4 c = search needs
 
 returns-2 : tie.Need-returns-2
-returns-2 c = let e = c .before .before .insert .ensures in rw (c .before .before .before .before .before .wide .ensures) (put-behind (c .before .before .before .before .before .before .before .before .before .before .pre) (c .before .before .before .before .before .before .before .if1 .left) (e .0) (e .1) (e .2))
+returns-2 c = let e = c .before .before .insert .ensures in rw (c .before .before .before .before .before .wide3 .ensures) (put-behind (omega (arith, c .before .before .before .before .before .before .before .before .if1 .left, c .before .before .before .before .before .before .before .before .before .wide .ensures)) (c .before .before .before .before .before .before .before .wide2 .ensures) (e .0) (e .1) (e .2))
 
 pub put-spec : {M : Type 1} → statement M
 put-spec =
     tie.close
     (tie.spec
+    wide-requires
     sub-front
-    cast-small
     mul-small
     slice-write-small
     cast-list
@@ -95,10 +105,13 @@ put-spec =
     same-length
     same-length-2
     returns
+    cast-wide
+    sub-wide
+    wide-requires-2
     add-wide
     mul-wide
     slice-read-wide
-    wide-requires
+    wide-requires-3
     mul-small-2
     slice-read-small
     mul-small-3
