@@ -11,7 +11,7 @@ use lib.ListN.{length}
 use borrow.Author.Tests.{ltb-true, ltb-false, lt-ltb, le-ltb, eq-eqb, ne-eqb}
 use Rattle.rules.specs.Vector.{entry, bound, Valid}
 use Rattle.rules.specs.Building.{Merge, State, start, below, sees, next, merge, follow, steps, merges}
-use Rattle.merging.specs.Bools.{and-false}
+use Rattle.basics.specs.Bools.{and-false}
 use Rattle.merging.specs.Insertion.{Bounded, put, insert, pairsOf, pairs, put-zero, put-suc, pairs-length}
 use Rattle.building.specs.Labels.{used-merge, unused-below}
 use Rattle.building.specs.Next.{sees-none, sees-at, Ready, next-ready, next-dead, next-blind, next-takes, Agree, next-cong, merge-cong}

@@ -12,7 +12,7 @@ use lib.Seq.{take-all}
 use borrow.Author.Tests.{ltb-true, ltb-false, eqb-true, eqb-false}
 use Rattle.rules.specs.Vector.{entry, Valid}
 use Rattle.rules.specs.Building.{Merge, State, start, next, merge, steps, merges}
-use Rattle.merging.specs.Bools.{and-false}
+use Rattle.basics.specs.Bools.{and-false}
 use Rattle.merging.specs.Insertion.{pairsOf, pairs}
 use Rattle.merging.specs.Once.{hit, times, once, times-insert, hit-other}
 use Rattle.building.specs.Labels.{Reached, starts, goes}

@@ -10,7 +10,7 @@ use lib.Dec.{eqb, ltb}
 use lib.ListN.{length}
 use borrow.Author.Tests.{ltb-true, ltb-false, eqb-true, eqb-false, lt-ltb, le-ltb, eq-eqb}
 use Rattle.rules.specs.Building.{Merge, State, start, below, member, smallestFrom, smallestUnused, next, merge}
-use Rattle.merging.specs.Bools.{or-right}
+use Rattle.basics.specs.Bools.{or-right}
 
 -- how many numbers of the list are x or more
 unfoldable atLeast : ℕ → List ℕ → ℕ

@@ -2,7 +2,6 @@ pub mod Labels
 pub mod Next
 pub mod Built
 pub mod Going
-pub mod Listed
 pub mod Entry
 pub mod Without
 pub mod Backwards

@@ -9,7 +9,7 @@ use native.Mathlib.Omega.{arith}
 use lib.Dec.{eqb}
 use borrow.Author.Tests.{eqb-true, eqb-false, eq-eqb, ne-eqb}
 use Rattle.rules.specs.Building.{Merge, State, sees, orBelow, next, merge}
-use Rattle.merging.specs.Bools.{and-left, and-right}
+use Rattle.basics.specs.Bools.{and-left, and-right}
 
 -- a leaf sees no cluster labelled x where it gives none that label
 pub sees-none : (s : State) (i x k : ℕ) → ((c : ℕ) → c < k → s .label i c ≢ x) → sees s i x k ≡ none

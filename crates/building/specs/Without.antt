@@ -10,7 +10,7 @@ use lib.Dec.{eqb}
 use lib.ListN.{length}
 use borrow.Author.Tests.{eqb-true, eqb-false, ne-eqb}
 use Rattle.rules.specs.Building.{Merge}
-use Rattle.merging.specs.Bools.{or-false, and-left, and-right}
+use Rattle.basics.specs.Bools.{or-false, and-left, and-right}
 use Rattle.merging.specs.Insertion.{put}
 use Rattle.merging.specs.Once.{hit, times, place, without, misses, hit-other}
 use Rattle.merging.specs.Greedy.{touch, free, Ahead, Greedy, Under}

@@ -8,8 +8,8 @@ use native.Mathlib.Omega.{arith}
 use lib.Dec.{ltb}
 use borrow.Author.Tests.{ltb-true, ltb-false, eqb-true, lt-ltb, le-ltb, eq-eqb}
 use Rattle.rules.specs.Tree.{Tree, leaf, node, has, least, size, Distinct, LeavesBelow, Clade, SameClades}
-use Rattle.merging.specs.Bools.{or-cases, or-left, or-right}
-use Rattle.clades.specs.Leaves.{Inside, least-in, fork, distinct-swap, leaves-below}
+use Rattle.basics.specs.Bools.{or-right}
+use Rattle.clades.specs.Leaves.{Inside, has-left, has-right, has-cases, least-has, least-apart, fork, distinct-swap, leaves-below}
 use Rattle.clades.specs.Same.{root, clade-in, clade-some, same-refl, same-sym, same-trans, same-leaves, same-turn, same-node}
 
 -- the part with the smaller least leaf first
@@ -82,14 +82,9 @@ join-comm a b h = go (ltb (least a) (least b)) refl
     go true q = rw (q, le-ltb (least b) (least a) (omega (arith, ltb-true (least a) (least b) q)))
     go false q = rw (q, lt-ltb (least b) (least a) (omega (arith, ltb-false (least a) (least b) q)))
 
--- the parts of a tree with distinct leaves have different names
-pub names-differ : (l r : Tree) → Distinct (node l r) → least l ≢ least r
-unfolding Distinct
-names-differ l r D e = D .0 (least l) (least-in l) (rw e (least-in r))
-
 pub form-swap : (l r : Tree) → Distinct (node l r) → form (node l r) ≡ form (node r l)
 unfolding form
-form-swap l r D = join-comm (form l) (form r) (λ e. names-differ l r D (sym (form-least l) ∙ e ∙ form-least r))
+form-swap l r D = join-comm (form l) (form r) (λ e. least-apart l r D (sym (form-least l) ∙ e ∙ form-least r))
 
 swap-first : (l r u : Tree) → SameClades (node l r) u → SameClades (node r l) u
 swap-first l r u = same-trans (node r l) (node l r) u (same-turn r l)
@@ -105,7 +100,7 @@ unfolding Distinct Clade has Inside
 narrow l r l′ r′ D D′ i e c f k = go (f (inr (inl k)))
   where
     go : ((y : ℕ) → c y ≡ has (node l′ r′) y) ⊎ (Clade l′ c ⊎ Clade r′ c) → Clade l′ c
-    go (inl h) = absurd (D .0 (least r) (clade-in c l k (least r) (h (least r) ∙ sym (e (least r)) ∙ or-right (has l (least r)) _ (least-in r))) (least-in r))
+    go (inl h) = absurd (D .0 (least r) (clade-in c l k (least r) (h (least r) ∙ sym (e (least r)) ∙ or-right (has l (least r)) _ (least-has r))) (least-has r))
     go (inr (inl h)) = h
     go (inr (inr h)) = let w = clade-some c l k in
         absurd (D′ .0 (w .0) (i (w .0) (clade-in c l k (w .0) (w .1))) (clade-in c r′ h (w .0) (w .1)))
@@ -113,7 +108,7 @@ narrow l r l′ r′ D D′ i e c f k = go (f (inr (inl k)))
 -- the same leaves, and each part in its own: then each part has the leaves of its own
 back : (l r l′ r′ : Tree) → Distinct (node l′ r′) → ((x : ℕ) → has (node l r) x ≡ has (node l′ r′) x) → Inside l l′ → Inside r r′ → Inside l′ l
 unfolding Distinct has Inside
-back l r l′ r′ D′ e i j x h = go (or-cases (has l x) (has r x) (e x ∙ or-left (has l′ x) (has r′ x) h))
+back l r l′ r′ D′ e i j x h = go (has-cases l r x (e x ∙ has-left l′ r′ x h))
   where
     go : (has l x ≡ true) ⊎ (has r x ≡ true) → has l x ≡ true
     go (inl p) = p
@@ -140,19 +135,19 @@ side l r l′ r′ D s = go (s (has l) .0 (inr (inl (root l))))
   where
     go : ((y : ℕ) → has l y ≡ has (node l′ r′) y) ⊎ (Clade l′ (has l) ⊎ Clade r′ (has l)) → Inside l l′ ⊎ Inside l r′
     go (inl h) =
-        let own : has (node l r) (least r) ≡ true = or-right (has l (least r)) (has r (least r)) (least-in r) in
-        absurd (D .0 (least r) (h (least r) ∙ sym (same-leaves (node l r) (node l′ r′) s (least r)) ∙ own) (least-in r))
+        let own : has (node l r) (least r) ≡ true = has-right l r (least r) (least-has r) in
+        absurd (D .0 (least r) (h (least r) ∙ sym (same-leaves (node l r) (node l′ r′) s (least r)) ∙ own) (least-has r))
     go (inr (inl h)) = inl (clade-in (has l) l′ h)
     go (inr (inr h)) = inr (clade-in (has l) r′ h)
 
 -- not both parts in one
 crowd : (l r l′ r′ : Tree) → Distinct (node l′ r′) → ((x : ℕ) → has (node l r) x ≡ has (node l′ r′) x) → Inside l l′ → Inside r l′ → ⊥
 unfolding Distinct has Inside
-crowd l r l′ r′ D′ e i j = go (or-cases (has l (least r′)) (has r (least r′)) (e (least r′) ∙ or-right (has l′ (least r′)) (has r′ (least r′)) (least-in r′)))
+crowd l r l′ r′ D′ e i j = go (has-cases l r (least r′) (e (least r′) ∙ has-right l′ r′ (least r′) (least-has r′)))
   where
     go : (has l (least r′) ≡ true) ⊎ (has r (least r′) ≡ true) → ⊥
-    go (inl p) = D′ .0 (least r′) (i (least r′) p) (least-in r′)
-    go (inr p) = D′ .0 (least r′) (j (least r′) p) (least-in r′)
+    go (inl p) = D′ .0 (least r′) (i (least r′) p) (least-has r′)
+    go (inr p) = D′ .0 (least r′) (j (least r′) p) (least-has r′)
 
 forks : (l r l′ r′ : Tree) → Distinct (node l r) → Distinct (node l′ r′) → SameClades (node l r) (node l′ r′)
     → ((u : Tree) → Distinct u → SameClades l u → form l ≡ form u) → ((u : Tree) → Distinct u → SameClades r u → form r ≡ form u)

@@ -1,16 +1,5 @@
 pub mod Leaves
-pub mod Count
+pub mod Size
 pub mod Same
 pub mod Form
-pub mod Grown
-pub mod Names
-pub mod Ready
-pub mod Collapse
-pub mod Graft
-pub mod OrderOf
-pub mod Fact1
-pub mod Part
-pub mod Clusters
-pub mod Complete
 pub mod Pruned
-pub mod Shortened

@@ -8,7 +8,8 @@ use Prim.Native.Nat.{ℕ}
 use lib.Dec.{eqb}
 use borrow.Author.Tests.{eqb-true, eq-eqb}
 use Rattle.rules.specs.Tree.{Tree, leaf, node, has, Clade}
-use Rattle.merging.specs.Bools.{or-left, or-right, or-false}
+use Rattle.basics.specs.Bools.{or-false}
+use Rattle.clades.specs.Leaves.{has-left, has-right}
 use Rattle.clades.specs.Same.{root, clade-some, clade-cong}
 
 -- what is left of a pair
@@ -175,4 +176,4 @@ pub pruned-all : (keep : ℕ → Bool) (t : Tree) → ((x : ℕ) → has t x ≡
 unfolding pruned has
 pruned-all keep (leaf x) h = rw (h x (eq-eqb x x refl))
 pruned-all keep (node l r) h =
-    rw (pruned-all keep l (λ x e. h x (or-left (has l x) (has r x) e)), pruned-all keep r (λ x e. h x (or-right (has l x) (has r x) e))) (unfold beside in refl)
+    rw (pruned-all keep l (λ x e. h x (has-left l r x e)), pruned-all keep r (λ x e. h x (has-right l r x e))) (unfold beside in refl)

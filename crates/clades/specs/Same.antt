@@ -6,8 +6,8 @@ use mathlib.Core.Bool.{Bool, true}
 use Prim.Native.Nat.{ℕ}
 use borrow.Author.Tests.{eq-eqb}
 use Rattle.rules.specs.Tree.{Tree, leaf, node, has, least, Clade, SameClades}
-use Rattle.merging.specs.Bools.{or-left, or-right, or-comm, both}
-use Rattle.clades.specs.Leaves.{least-in}
+use Rattle.basics.specs.Bools.{or-comm, both}
+use Rattle.clades.specs.Leaves.{has-left, has-right, least-has}
 
 -- the leaves of the whole tree are a clade
 pub root : (t : Tree) → Clade t (has t)
@@ -20,14 +20,14 @@ pub clade-in : (c : ℕ → Bool) (t : Tree) → Clade t c → (x : ℕ) → c x
 unfolding Clade has
 clade-in c (leaf y) k x e = sym (k x) ∙ e
 clade-in c (node l r) (inl k) x e = sym (k x) ∙ e
-clade-in c (node l r) (inr (inl k)) x e = or-left (has l x) (has r x) (clade-in c l k x e)
-clade-in c (node l r) (inr (inr k)) x e = or-right (has l x) (has r x) (clade-in c r k x e)
+clade-in c (node l r) (inr (inl k)) x e = has-left l r x (clade-in c l k x e)
+clade-in c (node l r) (inr (inr k)) x e = has-right l r x (clade-in c r k x e)
 
 -- a clade is not empty
 pub clade-some : (c : ℕ → Bool) (t : Tree) → Clade t c → (x : ℕ) × (c x ≡ true)
 unfolding Clade has
 clade-some c (leaf y) k = (y, k y ∙ eq-eqb y y refl)
-clade-some c (node l r) (inl k) = (least (node l r), k (least (node l r)) ∙ least-in (node l r))
+clade-some c (node l r) (inl k) = (least (node l r), k (least (node l r)) ∙ least-has (node l r))
 clade-some c (node l r) (inr (inl k)) = clade-some c l k
 clade-some c (node l r) (inr (inr k)) = clade-some c r k
 

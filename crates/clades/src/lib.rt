@@ -1,1 +1,1 @@
-// Clades, forms and orders of trees: no code here; specs/ has the definitions and their laws.
+// Trees, their leaves, clades and forms: no code here; specs/ has the definitions and their laws.

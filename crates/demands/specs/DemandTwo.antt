@@ -25,7 +25,8 @@ use Rattle.laws.specs.TreeOf.{tree-leaves, vector-again}
 use Rattle.laws.specs.FromTable.{rows-accepted}
 use Rattle.laws.specs.Stands.{Stands, tree-stands}
 use Rattle.record_laws.specs.Inverse.{unpack-record}
-use Rattle.grammar.specs.Written.{form, join, leaves-text}
+use Rattle.clades.specs.Form.{form, join}
+use Rattle.grammar.specs.Written.{leaves-text}
 use Rattle.grammar.specs.Faults.{leaves-no-fault, leaves-count}
 use Rattle.grammar.specs.Length.{text-length, text-length-most}
 use Rattle.table.specs.Rows.{rowsOf-flat}

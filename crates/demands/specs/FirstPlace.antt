@@ -17,7 +17,7 @@ use Rattle.rules.specs.Building.{member}
 use Rattle.rules.specs.Newick.{Placed, labelFault}
 use Rattle.rules.specs.Record.{bitsOf, total, anySet, padding}
 use Rattle.rules.specs.Shuffle.{permutationFault}
-use Rattle.merging.specs.Bools.{or-right}
+use Rattle.basics.specs.Bools.{or-right}
 use Rattle.demands.specs.Given.{First, Above, Unfit, PaddingSet}
 
 -- the first place is one

@@ -24,7 +24,7 @@ use Rattle.rules.specs.Shuffle.{renamed, newOf, permutationFault}
 use Rattle.rules.specs.Answer.{numberOf, Made, made, refuses}
 use Rattle.rules.specs.Calls.{refuseAt, refuseCount, refuseLength, fromVector, check, toTable, toText, pack, shuffleNew, shuffleVector, relabel}
 use Rattle.building.specs.Built.{merges-length}
-use Rattle.building.specs.Listed.{length-listed}
+use Rattle.basics.specs.Listed.{length-listed}
 use Rattle.laws.specs.Guards.{no-leaf, many-leaves, some-leaves, wrong-length, right-length, refuse-at}
 use Rattle.laws.specs.FromVector.{above-bound, within-bounds}
 use Rattle.laws.specs.TreeOf.{tree-size}

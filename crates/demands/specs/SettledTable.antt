@@ -12,7 +12,7 @@ use Rattle.rules.specs.Order.{vectorOf}
 use Rattle.rules.specs.Table.{Row, rowsOf, tableFault, tableTree}
 use Rattle.rules.specs.Answer.{numberOf, Made, made, refuses}
 use Rattle.rules.specs.Calls.{refuseFault, refuseCount, refuseLength, fromTable}
-use Rattle.clades.specs.Count.{size-below}
+use Rattle.clades.specs.Size.{size-below}
 use Rattle.laws.specs.Guards.{wrong-length, right-length}
 use Rattle.rows.specs.Forest.{rows-make-a-tree}
 use Rattle.demands.specs.Given.{CountWrong, CountRight, FirstRow, RowWrong, parent-wrong, child-not-below, child-named, TableRefused, table-1, table-2, table-row}

@@ -10,7 +10,7 @@ use lib.ListN.{length}
 use borrow.Author.Tests.{leb-true, eq-eqb}
 use Rattle.rules.specs.Newick.{isDigit, allDigits, valueFrom, Label, nought, number, Node, label, pair, Text, text, labelsOf}
 use Rattle.rules.specs.Tree.{Tree, leaf, node, has}
-use Rattle.grammar.specs.Complete.{and-both}
+use Rattle.basics.specs.Bools.{and-both}
 use Rattle.grammar.specs.Labels.{leavesOf, value, text-labels}
 use Rattle.grammar.specs.Pairs.{pairCount, childCode, pairsFrom}
 use Rattle.grammar.specs.Closed.{Small, small-left, small-right}

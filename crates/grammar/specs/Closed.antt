@@ -12,9 +12,11 @@ use lib.ListN.{length, length-append, length-map}
 use borrow.Author.Tests.{ne-eqb, eq-eqb, lt-ltb, le-ltb, ltb-true}
 use Rattle.rules.specs.Tree.{Tree, leaf, node, has, size, Distinct, LeavesBelow, Clusters}
 use Rattle.rules.specs.Table.{Row, nodesOf, tableTree, rowFault, tableFault, childrenBelow, namedTwice}
+use Rattle.basics.specs.Bools.{or-no}
+use Rattle.clades.specs.Leaves.{has-left, has-right}
+use Rattle.clades.specs.Size.{size-below}
 use Rattle.grammar.specs.Pairs.{pairCount, childCode, pairsFrom, pairs-length, size-pairs}
 use Rattle.grammar.specs.Nodes.{tied, tied-length}
-use Rattle.grammar.specs.Sums.{all-leaves-size}
 
 -- a child's number among n leaves: a label is a leaf, pair number k is node n + k
 unfoldable pub childNumber : ℕ → ℕ → ℕ
@@ -52,21 +54,13 @@ pub record Small (n : ℕ) (t : Tree) : Type 0 where
   pub few : n ≤ 16384
   pub below : (x : ℕ) → has t x ≡ true → x < n
 
-or-right : (a b : Bool) → b ≡ true → a || b ≡ true
-or-right true b e = refl
-or-right false b e = e
-
-or-left : (a b : Bool) → a ≡ true → a || b ≡ true
-or-left true b e = refl
-or-left false b e = absurd (true≢false (sym e))
-
 pub small-left : {n : ℕ} {l r : Tree} → Small n (node l r) → Small n l
 unfolding has
-small-left {n} {l} {r} h = record { few = h .few; below = λ x e. h .below x (or-left (has l x) (has r x) e) }
+small-left {n} {l} {r} h = record { few = h .few; below = λ x e. h .below x (has-left l r x e) }
 
 pub small-right : {n : ℕ} {l r : Tree} → Small n (node l r) → Small n r
 unfolding has
-small-right {n} {l} {r} h = record { few = h .few; below = λ x e. h .below x (or-right (has l x) (has r x) e) }
+small-right {n} {l} {r} h = record { few = h .few; below = λ x e. h .below x (has-right l r x e) }
 
 code-number : (n k : ℕ) (t : Tree) → Small n t → childNumber n (childCode k t) ≡ numberOf n k t
 unfolding childNumber childCode numberOf has
@@ -181,10 +175,6 @@ record Both (n k : ℕ) (l r : Tree) (y : ℕ) : Type 0 where
   not-left : y ≡ numberOf n k l → ⊥
   not-right : y ≡ numberOf n (k + pairCount l) r → ⊥
 
-or-no : (a b : Bool) → a || b ≡ false → (a ≡ false) × (b ≡ false)
-or-no true b e = absurd (true≢false e)
-or-no false b e = (refl, e)
-
 not-its-number : (n k : ℕ) (t : Tree) (y : ℕ) → y < n → has t y ≡ false → y ≡ numberOf n k t → ⊥
 unfolding numberOf has
 not-its-number n k (leaf x) y h q e = true≢false (sym (eq-eqb x y (sym e)) ∙ q)
@@ -284,13 +274,13 @@ module _ (n k : ℕ) (l r : Tree) (hl : Small n l) (hr : Small n r) (d : (x : �
   module _ (named : ℕ → Bool) (f : Free n k (node l r) named) where
     free-left : Free n k l named
     unfolding has
-    free-left = record { leaves = λ x e. f .leaves x (or-left (has l x) (has r x) e); nodes = f .nodes }
+    free-left = record { leaves = λ x e. f .leaves x (has-left l r x e); nodes = f .nodes }
 
     free-right : Free n (k + pairCount l) r (namedBy n k l named)
     unfolding has
     free-right =
         record {
-          leaves = λ x e. apart-named n k l named x hl (no-leaf (hr .below x e) (not-left-leaf x e)) ∙ f .leaves x (or-right (has l x) (has r x) e);
+          leaves = λ x e. apart-named n k l named x hl (no-leaf (hr .below x e) (not-left-leaf x e)) ∙ f .leaves x (has-right l r x e);
           nodes = λ y h. apart-named n k l named y hl (behind (omega arith)) ∙ f .nodes y (omega arith);
         }
 
@@ -353,7 +343,7 @@ module _ (n : ℕ) (t : Tree) (h : LeavesBelow n t) (few : n ≤ 16384) where
   closed-length =
       tied-length n (map (λ c. childNumber n (c .0)) (pairsFrom 0 t)) (map (λ c. childNumber n (c .1)) (pairsFrom 0 t))
       (length-map (pairsFrom 0 t) (λ c. childNumber n (c .0)) ∙ sym (length-map (pairsFrom 0 t) (λ c. childNumber n (c .1))))
-      ∙ length-map (pairsFrom 0 t) (λ c. childNumber n (c .0)) ∙ pairs-length 0 t ∙ omega (arith, size-pairs t, all-leaves-size n t h)
+      ∙ length-map (pairsFrom 0 t) (λ c. childNumber n (c .0)) ∙ pairs-length 0 t ∙ omega (arith, size-pairs t, size-below n t h)
 
   -- the rows of the closed pairs are an accepted table
   pub closed-accepted : tableFault n (closedRows n (pairsFrom 0 t)) ≡ none
@@ -367,4 +357,4 @@ module _ (n : ℕ) (t : Tree) (h : LeavesBelow n t) (few : n ≤ 16384) where
   unfolding tableTree
   closed-tree =
       let m : Made n 0 t leaf (nodesOf (treeRows n 0 t) leaf) = tree-made n 0 t leaf leaves-small (λ x e. refl) in
-      ap₂ (λ (rs : List Row) (k : ℕ). nodesOf rs leaf (n + k - 1)) rows-of-tree closed-length ∙ ap (nodesOf (treeRows n 0 t) leaf) (last-number n t leaves-small (omega (arith, size-pairs t, all-leaves-size n t h))) ∙ m .root
+      ap₂ (λ (rs : List Row) (k : ℕ). nodesOf rs leaf (n + k - 1)) rows-of-tree closed-length ∙ ap (nodesOf (treeRows n 0 t) leaf) (last-number n t leaves-small (omega (arith, size-pairs t, size-below n t h))) ∙ m .root

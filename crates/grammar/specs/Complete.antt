@@ -13,6 +13,7 @@ use native.Mathlib.Numerals.{add-one}
 use borrow.Author.Tests.{eqb-true, ne-eqb, leb-true}
 use Rattle.rules.specs.Newick.{isDigit, allDigits, valueFrom, levels, Label, nought, number, Node, label, pair, pairText, Text, text, Begins, BreaksAt, broken as breaks, ended}
 use Rattle.rules.specs.Tree.{Tree, leaf, node}
+use Rattle.basics.specs.Bools.{and-both}
 use Rattle.grammar.specs.Reading.{Reading, read, broken, Reader, andThen, seq, sign, nothing, moreDigits, labelRead, pairRead, bracketOrLabel, nodeRead, textRead}
 use Rattle.grammar.specs.Sound.{Like, Reads, Breaks, Outcome, sound-text}
 
@@ -20,10 +21,6 @@ use Rattle.grammar.specs.Sound.{Like, Reads, Breaks, Outcome, sound-text
 abbrev pub NoDigit : List ℕ → Type 0
 NoDigit [] = Unit {0}
 NoDigit (c ∷ r) = isDigit c ≡ false
-
-pub and-both : (a b : Bool) → a && b ≡ true → (a ≡ true) × (b ≡ true)
-and-both true b e = (refl, e)
-and-both false b e = absurd (let z : _≡_ {A = ℕ} 0 1 = cc in omega arith)
 
 pub no-more : (k x : ℕ) (r : List ℕ) → NoDigit r → moreDigits k x r ≡ read r (leaf x)
 unfolding moreDigits

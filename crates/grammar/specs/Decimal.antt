@@ -9,7 +9,7 @@ use lib.Dec.{eqb, ltb, leb}
 use lib.ListN.{length, length-append}
 use borrow.Author.Tests.{ltb-true, ltb-false, lt-ltb, le-ltb, le-leb, leb-true, ne-eqb, eqb-true, eqb-false}
 use Rattle.rules.specs.Newick.{digits, isDigit, allDigits, valueFrom, Label, nought, number}
-use Rattle.grammar.specs.Complete.{and-both}
+use Rattle.basics.specs.Bools.{and-both}
 
 digit-sign : (x : ℕ) → x < 10 → isDigit (48 + x) ≡ true
 unfolding isDigit

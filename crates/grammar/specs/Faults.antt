@@ -13,8 +13,10 @@ use borrow.Author.Tests.{eq-eqb, eqb-true, lt-ltb, ltb-true}
 use Rattle.rules.specs.Building.{member}
 use Rattle.rules.specs.Newick.{Placed, Text, labelsOf, labelFault}
 use Rattle.rules.specs.Tree.{Tree, leaf, node, has, size, Distinct, LeavesBelow}
+use Rattle.basics.specs.Bools.{or-no}
+use Rattle.clades.specs.Leaves.{has-left, has-right, has-cases}
+use Rattle.clades.specs.Size.{every-leaf, size-below}
 use Rattle.grammar.specs.Labels.{value, leavesOf, text-labels, text-label-count}
-use Rattle.grammar.specs.Sums.{every-leaf, all-leaves-size}
 
 -- the first fault among labels without their places: is there none?
 unfoldable pub fits : ℕ → List ℕ → List ℕ → Bool
@@ -69,14 +71,6 @@ pub record Fitting (n : ℕ) (used : List ℕ) (t : Tree) : Type 0 where
   pub small : (x : ℕ) → has t x ≡ true → x < n
   pub fresh : (x : ℕ) → has t x ≡ true → member x used ≡ false
 
-or-no : (a b : Bool) → a || b ≡ false → (a ≡ false) × (b ≡ false)
-or-no true b e = absurd (true≢false e)
-or-no false b e = (refl, e)
-
-or-cases : (a b : Bool) → a || b ≡ true → (a ≡ true) ⊎ (b ≡ true)
-or-cases true b e = inl refl
-or-cases false b e = inr e
-
 one-fits : (n x : ℕ) (used rest : List ℕ) → fits n used (x ∷ rest) ≡ true → (x < n) × (member x used ≡ false) × (fits n (x ∷ used) rest ≡ true)
 unfolding fits
 one-fits n x used rest h = go (ltb x n) refl (member x used) refl h
@@ -107,8 +101,8 @@ fit-leaves n (node l r) used rest h =
     both a b =
         record {
           once = ((λ x e g. true≢false (sym (used-has l used x ∙ ap (λ (c : Bool). c || member x used) e) ∙ b .fresh x g)), a .once, b .once);
-          small = λ x e. ⊎-elim (λ g. a .small x g) (λ g. b .small x g) (or-cases (has l x) (has r x) e);
-          fresh = λ x e. ⊎-elim (λ g. a .fresh x g) (λ g. or-no (has l x) (member x used) (sym (used-has l used x) ∙ b .fresh x g) .1) (or-cases (has l x) (has r x) e);
+          small = λ x e. ⊎-elim (λ g. a .small x g) (λ g. b .small x g) (has-cases l r x e);
+          fresh = λ x e. ⊎-elim (λ g. a .fresh x g) (λ g. or-no (has l x) (member x used) (sym (used-has l used x) ∙ b .fresh x g) .1) (has-cases l r x e);
         }
 
 leaves-fit : (n : ℕ) (t : Tree) (used rest : List ℕ) → Fitting n used t → fits n used (leavesOf t ++ rest) ≡ fits n (usedBy t used) rest
@@ -117,22 +111,14 @@ leaves-fit n (leaf y) used rest h =
     let e : eqb y y ≡ true = eq-eqb y y refl in
     rw (lt-ltb y n (h .small y e), h .fresh y e)
 leaves-fit n (node l r) used rest h =
-    let a : Fitting n used l = record { once = h .once .1; small = λ x e. h .small x (or-left (has l x) (has r x) e); fresh = λ x e. h .fresh x (or-left (has l x) (has r x) e) } in
+    let a : Fitting n used l = record { once = h .once .1; small = λ x e. h .small x (has-left l r x e); fresh = λ x e. h .fresh x (has-left l r x e) } in
     let b : Fitting n (usedBy l used) r = record {
       once = h .once .2;
-      small = λ x e. h .small x (or-right (has l x) (has r x) e);
-      fresh = λ x e. used-has l used x ∙ apart x (has l x) refl e ∙ h .fresh x (or-right (has l x) (has r x) e);
+      small = λ x e. h .small x (has-right l r x e);
+      fresh = λ x e. used-has l used x ∙ apart x (has l x) refl e ∙ h .fresh x (has-right l r x e);
     } in
     ap (fits n used) (append-assoc (leavesOf l) (leavesOf r) rest) ∙ leaves-fit n l used (leavesOf r ++ rest) a ∙ leaves-fit n r (usedBy l used) rest b
   where
-    or-left : (a b : Bool) → a ≡ true → a || b ≡ true
-    or-left true b e = refl
-    or-left false b e = absurd (true≢false (sym e))
-
-    or-right : (a b : Bool) → b ≡ true → a || b ≡ true
-    or-right true b e = refl
-    or-right false b e = e
-
     apart : (x : ℕ) (c : Bool) → has l x ≡ c → has r x ≡ true → has l x || member x used ≡ member x used
     apart x true e g = absurd (h .once .0 x e g)
     apart x false e g = rw e
@@ -159,4 +145,4 @@ leaves-no-fault {s} {t} n h b =
     (fault-fits n [] (labelsOf s) ∙ ap (fits n []) (text-labels h ∙ sym (append-nil (leavesOf t))) ∙ leaves-fit n t [] [] g)
 
 pub leaves-count : {s : List ℕ} {t : Tree} (n : ℕ) → Text s t → LeavesBelow n t → length (labelsOf s) ≡ n
-leaves-count {s} {t} n h b = text-label-count h ∙ all-leaves-size n t b
+leaves-count {s} {t} n h b = text-label-count h ∙ size-below n t b

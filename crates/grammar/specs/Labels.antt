@@ -9,7 +9,7 @@ use native.Mathlib.Omega.{arith}
 use lib.ListN.{length, length-append, length-map}
 use Rattle.rules.specs.Newick.{isDigit, allDigits, valueFrom, Label, nought, number, Node, label, pair, pairText, Text, text, Placed, withDigit, ending, labelsFrom, labelsOf}
 use Rattle.rules.specs.Tree.{Tree, leaf, node, size}
-use Rattle.grammar.specs.Complete.{and-both}
+use Rattle.basics.specs.Bools.{and-both}
 
 -- the leaves from left to right
 unfoldable pub leavesOf : Tree → List ℕ

@@ -9,9 +9,10 @@ use lib.Dec.{ltb}
 use lib.ListN.{length, length-append}
 use Rattle.rules.specs.Newick.{digits, pairText, nodeText, textOf}
 use Rattle.rules.specs.Tree.{Tree, leaf, node, least, size, LeavesBelow}
+use Rattle.basics.specs.Sums.{sumBelow, sum-mono}
+use Rattle.clades.specs.Size.{sumLeaves, all-leaves-sum, size-below}
 use Rattle.grammar.specs.Decimal.{digitCount, digits-length}
 use Rattle.grammar.specs.Pairs.{pairCount, size-pairs}
-use Rattle.grammar.specs.Sums.{sumLeaves, sumBelow, sum-mono, all-leaves-sum, all-leaves-size}
 
 -- the digits of 0 to n-1, three signs for each of the n-1 pairs, and the sign at the end
 unfoldable pub textLength : ℕ → ℕ
@@ -35,7 +36,7 @@ node-length (node l r) = go (ltb (least l) (least r)) (node-length l) (node-leng
 pub text-length : (n : ℕ) (t : Tree) → LeavesBelow n t → length (textOf t) ≡ textLength n
 unfolding textOf textLength
 text-length n t h =
-    omega (arith, length-append (nodeText t) (59 ∷ []), node-length t, all-leaves-sum digitCount n t h, size-pairs t, all-leaves-size n t h)
+    omega (arith, length-append (nodeText t) (59 ∷ []), node-length t, all-leaves-sum digitCount n t h, size-pairs t, size-below n t h)
 
 pub text-length-1024 : textLength 1024 ≡ 6056
 unfolding textLength

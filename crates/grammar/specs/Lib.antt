@@ -3,7 +3,6 @@ pub mod Sound
 pub mod Complete
 pub mod Labels
 pub mod Pairs
-pub mod Sums
 pub mod Faults
 pub mod Decimal
 pub mod Written

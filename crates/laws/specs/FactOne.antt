@@ -6,8 +6,8 @@ use lib.ListN.{length, take, getD}
 use Rattle.rules.specs.Vector.{Valid}
 use Rattle.rules.specs.Building.{merges}
 use Rattle.building.specs.Backwards.{merges-in-order}
-use Rattle.clades.specs.Complete.{Complete, next-complete}
-use Rattle.clades.specs.Ready.{Greatest}
+use Rattle.growing.specs.Complete.{Complete, next-complete}
+use Rattle.growing.specs.Ready.{Greatest}
 
 -- "of the pairs whose two clusters are complete, the one whose larger name is greatest comes first": after k merges, of the pairs of the
 -- final tree whose two clusters are there and not merged away, the next merge is the one whose larger name is greatest

@@ -14,11 +14,11 @@ use Rattle.rules.specs.Tree.{Tree, leaf, treeOf, grown, LeavesBelow, SameClades
 use Rattle.rules.specs.Order.{order, vectorOf, listed, entryAt}
 use Rattle.building.specs.Backwards.{InOrder, in-order-is-merges}
 use Rattle.building.specs.Entry.{merges-injective}
-use Rattle.building.specs.Listed.{length-listed}
-use Rattle.clades.specs.Count.{size-below}
+use Rattle.basics.specs.Listed.{length-listed}
+use Rattle.clades.specs.Size.{size-below}
 use Rattle.clades.specs.Form.{form-clades}
 use Rattle.clades.specs.Leaves.{below-some}
-use Rattle.clades.specs.OrderOf.{order-rising, order-good, order-greedy, order-under, order-once, grown-order}
+use Rattle.growing.specs.OrderOf.{order-rising, order-good, order-greedy, order-under, order-once, grown-order}
 use Rattle.clades.specs.Same.{same-refl, same-sym, same-trans, same-leaves}
 use Rattle.laws.specs.TreeOf.{tree-leaves, equal-trees-equal-order}
 

@@ -13,7 +13,7 @@ use Rattle.merging.specs.Insertion.{pairs}
 use Rattle.building.specs.Built.{valid-bounded}
 use Rattle.building.specs.Shortened.{valid-take, only-pairs, pairs-take}
 use Rattle.clades.specs.Pruned.{pruned, Restriction, pruned-clades}
-use Rattle.clades.specs.Shortened.{keepBelow, pruned-pairs}
+use Rattle.growing.specs.Shortened.{keepBelow, pruned-pairs}
 use Rattle.laws.specs.TreeOf.{tree-by-pairs}
 
 -- "the first m entries are valid"

@@ -9,7 +9,8 @@ use lib.Dec.{ltb}
 use borrow.Author.Tests.{ltb-true, ltb-false}
 use Rattle.rules.specs.Vector.{Valid}
 use Rattle.rules.specs.Tree.{Tree, leaf, node, least, Distinct, treeOf}
-use Rattle.clades.specs.Form.{form, join, form-least, names-differ}
+use Rattle.clades.specs.Leaves.{least-apart}
+use Rattle.clades.specs.Form.{form, join, form-least}
 use Rattle.laws.specs.TreeOf.{tree-leaves, tree-form}
 
 -- in each pair "the child with the smaller least leaf first"
@@ -27,7 +28,7 @@ form-stands (node l r) D = go (ltb (least (form l)) (least (form r))) refl (form
     go true q a c = (ltb-true (least (form l)) (least (form r)) q, a, c)
     go false q a c =
         let f = ltb-false (least (form l)) (least (form r)) q in
-        let d = names-differ l r D in
+        let d = least-apart l r D in
         let el = form-least l in
         let er = form-least r in
         (omega arith, c, a)

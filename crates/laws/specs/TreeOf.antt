@@ -12,10 +12,10 @@ use Rattle.merging.specs.Insertion.{pairs}
 use Rattle.building.specs.Built.{valid-bounded, merges-are-pairs}
 use Rattle.building.specs.Entry.{entries-of-merges}
 use Rattle.clades.specs.Form.{form}
-use Rattle.clades.specs.Count.{size-below}
-use Rattle.clades.specs.Fact1.{pairs-order, pairs-below}
-use Rattle.clades.specs.Grown.{form-grown}
-use Rattle.clades.specs.OrderOf.{same-order}
+use Rattle.clades.specs.Size.{size-below}
+use Rattle.growing.specs.Fact1.{pairs-order, pairs-below}
+use Rattle.growing.specs.Grown.{form-grown}
+use Rattle.growing.specs.OrderOf.{same-order}
 use Rattle.merging.specs.Named.{rising}
 
 -- the tree by insertion

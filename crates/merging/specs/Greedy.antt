@@ -9,7 +9,7 @@ use lib.Dec.{eqb, ltb}
 use lib.ListN.{length}
 use borrow.Author.Tests.{ltb-false, eq-eqb}
 use Rattle.rules.specs.Building.{Merge}
-use Rattle.merging.specs.Bools.{and-left, and-right}
+use Rattle.basics.specs.Bools.{and-left, and-right}
 use Rattle.merging.specs.Insertion.{put, insert, pairsOf, Bounded, pairs-length}
 
 -- q and p have a cluster's name in common

@@ -1,5 +1,5 @@
-pub mod Bools
 pub mod Insertion
 pub mod Once
 pub mod Greedy
 pub mod Named
+pub mod Names

@@ -9,7 +9,7 @@ use lib.Dec.{eqb, ltb}
 use lib.ListN.{length}
 use borrow.Author.Tests.{ltb-true, ltb-false, eqb-true, eqb-false, eq-eqb, ne-eqb}
 use Rattle.rules.specs.Building.{Merge}
-use Rattle.merging.specs.Bools.{or-left, or-right, or-swap, or-no}
+use Rattle.basics.specs.Bools.{or-left, or-right, or-swap, or-no}
 use Rattle.merging.specs.Insertion.{put, insert, pairsOf, Bounded, pairs-length}
 use Rattle.merging.specs.Greedy.{Under, under-pairs}
 

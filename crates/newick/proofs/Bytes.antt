@@ -14,7 +14,8 @@ use lib.Dec.{ltb}
 use Rattle.rules.specs.Newick.{isDigit}
 use Rattle.rules.specs.Tree.{Tree, leaf, node}
 use Rattle.grammar.specs.Reading.{Reading, read, broken, Reader, sign, moreDigits, labelRead, bracketOrLabel, nodeRead, pairRead}
-use Rattle.grammar.specs.Complete.{NoDigit, no-more, and-both}
+use Rattle.basics.specs.Bools.{and-both}
+use Rattle.grammar.specs.Complete.{NoDigit, no-more}
 
 pub digit-range : (c : ℕ) → isDigit c ≡ true → (48 ≤ c) × (c ≤ 57)
 unfolding isDigit

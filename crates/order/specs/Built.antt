@@ -13,7 +13,7 @@ use lib.Seq.{getD-set-same, getD-set-other}
 use borrow.Author.Tests.{eqb-true, eqb-false, eq-eqb, ne-eqb, ltb-true, ltb-false, lt-ltb, le-ltb}
 use Rattle.rules.specs.Tree.{Tree, leaf, node, has, least, Distinct, Clusters}
 use Rattle.rules.specs.Table.{Row, nodesOf, tableTree}
-use Rattle.merging.specs.Bools.{or-false}
+use Rattle.basics.specs.Bools.{or-false}
 use Rattle.rows.specs.Larger.{top, inner, Pair, has-left, has-right, has-cases, least-has, top-has, pair-has, pair-above, least-apart, top-left, top-right, not-top, top-below}
 use Rattle.rows.specs.Fits.{Fits, Agree, fits-cong, fits-hang}
 use Rattle.rows.specs.Count.{last-or-before, count, count-pos, count-without}

@@ -15,7 +15,7 @@ use borrow.Author.Tests.{eqb-true, eqb-false, eq-eqb, ne-eqb, ltb-true, ltb-fals
 use Rattle.rules.specs.Building.{Merge}
 use Rattle.rules.specs.Tree.{Tree, leaf, node, has, least, size, Distinct, LeavesBelow}
 use Rattle.rules.specs.Order.{best, collapse, order}
-use Rattle.merging.specs.Bools.{or-cases, or-no}
+use Rattle.basics.specs.Bools.{or-cases, or-no}
 use Rattle.rows.specs.Larger.{top, inner, Pair, pair-has, pair-above, pair-of, least-le}
 use Rattle.rows.specs.Fits.{Fits, Agree, fits-cong, parent, fits-smaller, some-ready}
 use Rattle.rows.specs.Best.{best-fits}

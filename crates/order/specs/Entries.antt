@@ -13,7 +13,7 @@ use lib.Seq.{getD-set-same, getD-set-other, getD-take, take-suc, drop-set-lt, ex
 use borrow.Author.Tests.{eqb-true, eqb-false, eq-eqb, ne-eqb, ltb-true, ltb-false, lt-ltb, le-ltb}
 use Rattle.rules.specs.Building.{Merge}
 use Rattle.rules.specs.Order.{earlier, partner, entryFrom, entryAt, listed}
-use Rattle.merging.specs.Bools.{and-false}
+use Rattle.basics.specs.Bools.{and-false}
 use Rattle.rows.specs.Count.{bit}
 use Rattle.order.specs.Climb.{cell, mergesOf, Names}
 use Rattle.order.specs.Rank.{member, below, below-suc, below-le, Counted, MoreAbove, with-member, counted-with, below-with, lessIn, less-snoc, Ranked, ranked-none}

@@ -14,7 +14,7 @@ use lib.Seq.{getD-set-same, getD-set-other, take-all}
 use borrow.Author.Tests.{eqb-true, eqb-false, eq-eqb, ne-eqb}
 use Rattle.rules.specs.Table.{Row, rowsOf, rowFault, tableFault, tableTree}
 use Rattle.rules.specs.Order.{vectorOf}
-use Rattle.merging.specs.Bools.{or-false}
+use Rattle.basics.specs.Bools.{or-false}
 use Rattle.rows.specs.Forest.{RowOk, namedIn, namedAlso, named-snoc, fault-append, fault-step}
 use Rattle.order.specs.Built.{taken, Built, Adds, built-start}
 use Rattle.reading.specs.RowAt.{rowAt, rows-count, rows-drop, rows-take}

@@ -13,7 +13,7 @@ use borrow.Author.Tests.{eqb-true, eqb-false, eq-eqb, ne-eqb, ltb-true, ltb-fals
 use Rattle.rules.specs.Tree.{Tree, leaf, node, has, Clade, Clusters}
 use Rattle.rules.specs.Table.{Row, rowFault, tableFault, nodesOf, tableTree, Under, TableClade}
 use Rattle.rules.specs.Table.Under.{itself, left, right}
-use Rattle.merging.specs.Bools.{or-cases, both}
+use Rattle.basics.specs.Bools.{or-cases, both}
 use Rattle.rows.specs.Larger.{has-left, has-right, has-cases}
 use Rattle.rows.specs.Count.{count, count-only}
 use Rattle.rows.specs.Forest.{namedAlso, namedIn, noded, RowOk, Forest, fault-none, forest-table}

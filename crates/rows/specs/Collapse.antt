@@ -12,7 +12,7 @@ use borrow.Author.Tests.{eqb-true, eqb-false, eq-eqb, ne-eqb}
 use Rattle.rules.specs.Building.{Merge, follow}
 use Rattle.rules.specs.Tree.{Tree, leaf, node, has, least, size, Distinct}
 use Rattle.rules.specs.Order.{ready, best, isMerge, collapse, ordered, order}
-use Rattle.merging.specs.Bools.{and-left, and-right, and-false}
+use Rattle.basics.specs.Bools.{and-left, and-right, and-false}
 use Rattle.rows.specs.Larger.{top, inner, Pair, has-left, has-right, has-cases, least-has, pair-has, pair-above, top-left, top-right, pair-apart}
 use Rattle.rows.specs.Fits.{Fits, Agree, fits-cong, parent}
 use Rattle.rows.specs.Best.{ready-is, ready-leaves}

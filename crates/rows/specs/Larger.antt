@@ -8,7 +8,7 @@ use native.Mathlib.Omega.{arith}
 use lib.Dec.{eqb, ltb}
 use borrow.Author.Tests.{ltb-true, ltb-false, eqb-true, eqb-false, eq-eqb}
 use Rattle.rules.specs.Tree.{Tree, leaf, node, has, least, size, Distinct}
-use Rattle.merging.specs.Bools.{or-cases, or-left, or-right}
+use Rattle.basics.specs.Bools.{or-cases, or-left, or-right}
 
 -- the larger name of a tree's own pair; a leaf has no pair, and 0 is never a larger name
 unfoldable pub top : Tree → ℕ

@@ -8,7 +8,7 @@ use lib.ListN.{length, getD, drop, length-set}
 use Rattle.rules.specs.Tree.{Tree, Clusters}
 use Rattle.rules.specs.Table.{tableTree}
 use Rattle.rules.specs.Shuffle.{newOf, Queue}
-use Rattle.shuffle_laws.specs.Count.{by-lt}
+use Rattle.basics.specs.Cases.{by-lt}
 use Rattle.shuffle_laws.specs.Taken.{inner}
 use Rattle.shuffle_laws.specs.Handed.{outcome, outcome-end, outcome-new}
 use Rattle.shuffle.specs.Held.{heldRows, heldNodes, heldTree, Tabled, Shape, some-leaf, length-held, held-shape}

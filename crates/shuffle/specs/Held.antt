@@ -9,7 +9,7 @@ use lib.ListN.{length, getD}
 use lib.Seq.{ext-getD}
 use Rattle.rules.specs.Tree.{Tree, leaf, node, Clusters, LeavesBelow}
 use Rattle.rules.specs.Table.{Row, tableFault, nodesOf, tableTree}
-use Rattle.shuffle_laws.specs.Count.{size-below}
+use Rattle.clades.specs.Size.{size-below}
 use Rattle.shuffle_laws.specs.Taken.{size-inner}
 use Rattle.shuffle_laws.specs.Rows.{Turned, leaf-of, node-of, stands-row, accepted-stands, renamedChild, renamedRow, renamedRows, length-renamed, getD-renamed, row-renamed}
 
@@ -38,7 +38,7 @@ pub record Tabled (n : ℕ) (left right : List ℕ) : Type 0 where
 
 -- there is a leaf
 pub some-leaf : {n : ℕ} {left right : List ℕ} → Tabled n left right → 1 ≤ n
-some-leaf {n} {left} {right} B = omega (arith, size-below (B .leaves), size-inner (heldTree n left right))
+some-leaf {n} {left} {right} B = omega (arith, size-below _ _ (B .leaves), size-inner (heldTree n left right))
 
 length-from : (n : ℕ) (left right : List ℕ) (t k : ℕ) → length (heldFrom n left right t k) ≡ k
 unfolding heldFrom

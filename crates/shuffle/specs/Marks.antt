@@ -14,7 +14,8 @@ use lib.Seq.{drop-cons, getD-set-same, getD-set-other, drop-length}
 use borrow.Author.Tests.{lt-ltb, le-ltb, eq-eqb, ne-eqb}
 use Rattle.rules.specs.Building.{member}
 use Rattle.rules.specs.Shuffle.{permutationFault}
-use Rattle.shuffle_laws.specs.Count.{one, by-lt, by-eq}
+use Rattle.basics.specs.Cases.{by-lt, by-eq}
+use Rattle.basics.specs.Sums.{one}
 
 -- a place below the length, or none
 unfoldable pub placeOf : ℕ → ℕ → Option ℕ

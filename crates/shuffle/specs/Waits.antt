@@ -10,7 +10,8 @@ use lib.ListN.{length, getD, set, drop, length-append, List·getD-append}
 use lib.Seq.{drop-append-le, drop-cons, drop-length, getD-at, getD-set-same, getD-set-other}
 use Rattle.rules.specs.Tree.{Tree, leaf, node, least, Clusters, LeavesBelow}
 use Rattle.rules.specs.Shuffle.{Queue}
-use Rattle.shuffle_laws.specs.Count.{by-lt, by-eq, size-below}
+use Rattle.basics.specs.Cases.{by-lt, by-eq}
+use Rattle.clades.specs.Size.{size-below}
 use Rattle.shuffle_laws.specs.Taken.{inner, innerIn, weigh, weigh-append, size-inner}
 use Rattle.shuffle_laws.specs.Handed.{outcome, outcome-take, outcome-leaf, outcome-node}
 use Rattle.shuffle_laws.specs.Rows.{Turned}
@@ -245,5 +246,5 @@ waits-start {n} {T} nodes labels root b = record {
   low = λ j h. absurd (omega arith);
   high = λ j h. absurd (omega arith);
   turned = λ j h. absurd (omega arith);
-  count = omega (arith, ap innerIn (queue-none T nodes labels 0), size-below b, size-inner (T root));
+  count = omega (arith, ap innerIn (queue-none T nodes labels 0), size-below _ _ b, size-inner (T root));
 }

@@ -12,9 +12,11 @@ use borrow.Author.Tests.{lt-ltb, le-ltb, eq-eqb, ne-eqb}
 use Rattle.rules.specs.Building.{Merge, follow}
 use Rattle.rules.specs.Tree.{Tree, leaf, node, least}
 use Rattle.rules.specs.Order.{ready, greater, best, isMerge, collapse, ordered, earlier, partner, entryFrom, entryAt}
-use Rattle.merging.specs.Bools.{and-false}
+use Rattle.basics.specs.Bools.{and-false}
 use Rattle.merging.specs.Once.{hit, hit-same, hit-other}
-use Rattle.shuffle_laws.specs.Count.{one-more, one, by-lt, by-eq, one-le, one-lt, one-ge, one-lt-below, hit-one, leafTimes}
+use Rattle.basics.specs.Cases.{by-lt, by-eq}
+use Rattle.basics.specs.Sums.{one, one-le, one-lt, one-ge, one-lt-below}
+use Rattle.shuffle_laws.specs.Count.{one-more, hit-one, leafTimes}
 
 -- the larger name of the pair of two parts
 abbrev pub higher : Tree → Tree → ℕ

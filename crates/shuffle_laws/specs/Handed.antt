@@ -11,10 +11,12 @@ use Rattle.rules.specs.Tree.{Tree, leaf, node, least, size, LeavesBelow}
 use Rattle.rules.specs.Order.{listed}
 use Rattle.rules.specs.Shuffle.{Queue, Given, behind, taken, given, newOf}
 use Rattle.merging.specs.Once.{hit-same, hit-other}
-use Rattle.shuffle_laws.specs.Count.{by-lt, by-eq, one-lt, one-ge, below-times, size-below}
-use Rattle.shuffle_laws.specs.Permutation.{length-listed}
+use Rattle.basics.specs.Listed.{length-listed, listed-at}
+use Rattle.basics.specs.Cases.{by-lt, by-eq}
+use Rattle.basics.specs.Sums.{one-lt, one-ge}
+use Rattle.clades.specs.Size.{size-below}
+use Rattle.shuffle_laws.specs.Count.{below-times}
 use Rattle.shuffle_laws.specs.Taken.{inner, innerIn, nodes, nodesIn, weigh, nodes-behind, nodes-inner, inner-behind, size-inner, sumGiven, leafGiven, leaf-given, allGiven}
-use Rattle.shuffle_laws.specs.Shuffled.{getD-listed}
 
 -- the leaves of a queue with their labels, which are given at once, and the inner nodes, which wait
 unfoldable pub atOnce : Queue → List Given
@@ -139,13 +141,13 @@ fill-new {n} {t} b old h =
       length-append (listed (size t) (given (allGiven t))) (drop n old),
       length-listed (size t) (given (allGiven t)),
       length-drop n old,
-      size-below b,
+      size-below _ _ b,
     ))
     (λ i l. by-lt i n
     (λ k. fill-given (allGiven t) old i (omega (arith, length-fill (allGiven t) old)) (leaf-given i t ∙ below-times b i ∙ one-lt i n k)
-    ∙ sym (List·getD-append (listed (size t) (given (allGiven t))) (drop n old) 0 i (omega (arith, size-below b, length-listed (size t) (given (allGiven t)))) ∙ getD-listed (size t) (given (allGiven t)) i (omega (arith, size-below b))))
+    ∙ sym (List·getD-append (listed (size t) (given (allGiven t))) (drop n old) 0 i (omega (arith, size-below _ _ b, length-listed (size t) (given (allGiven t)))) ∙ listed-at (size t) (given (allGiven t)) i (omega (arith, size-below _ _ b))))
     (λ k. fill-other (allGiven t) old i (leaf-given i t ∙ below-times b i ∙ one-ge i n k)
-    ∙ sym (getD-behind (listed (size t) (given (allGiven t))) old n i (length-listed (size t) (given (allGiven t)) ∙ size-below b) k)))
+    ∙ sym (getD-behind (listed (size t) (given (allGiven t))) old n i (length-listed (size t) (given (allGiven t)) ∙ size-below _ _ b) k)))
 
 -- the whole of Queue Shuffle: the root joins an empty queue with label 0, the next label is 1, and n-1 inner nodes are taken
 pub outcome-new : {n : ℕ} {t : Tree} → LeavesBelow n t → (old : List ℕ) → n ≤ length old
@@ -154,5 +156,5 @@ unfolding outcome weigh
 outcome-new {n} {t} b old h =
     ap (λ (gs : List Given). fill gs old)
     (sym (taken-handed (2 * size t - 1) (n - 1) 1 ((t, 0) ∷ [])
-    (omega (arith, nodes-inner t, size-inner t)) (omega (arith, size-inner t, size-below b))))
+    (omega (arith, nodes-inner t, size-inner t)) (omega (arith, size-inner t, size-below _ _ b))))
     ∙ fill-new b old h

@@ -15,7 +15,10 @@ use Rattle.rules.specs.Vector.{entry}
 use Rattle.rules.specs.Order.{listed}
 use Rattle.rules.specs.Shuffle.{permutationFault}
 use Rattle.merging.specs.Once.{hit, hit-same, hit-other}
-use Rattle.shuffle_laws.specs.Count.{one, by-lt, by-eq, by-test, one-le, one-lt, one-ge, one-lt-below, hit-le, total, total-plus, total-zero, total-hit, total-full}
+use Rattle.basics.specs.Cases.{by-lt, by-eq, by-test}
+use Rattle.basics.specs.Listed.{length-listed}
+use Rattle.basics.specs.Sums.{one, one-le, one-lt, one-ge, one-lt-below, sumBelow, sum-plus, sum-zero, sum-full}
+use Rattle.shuffle_laws.specs.Count.{hit-le, sum-hit}
 
 -- how often y stands in the list
 unfoldable pub occurs : ℕ → List ℕ → ℕ
@@ -82,17 +85,17 @@ room-fault n i used (x ∷ p) h =
     (λ s. rw s (omega (arith, h x, hit-same x x refl, room-free n x used (first .0) (first .1), room-used n x used)))
     (λ d. omega (arith, h y, hit-other y x d, room-other n x y used d))))
 
-pub total-occurs : (n : ℕ) (p : List ℕ) → ((y : ℕ) → n ≤ y → occurs y p ≡ 0) → total n (λ y. occurs y p) ≡ length p
+pub sum-occurs : (n : ℕ) (p : List ℕ) → ((y : ℕ) → n ≤ y → occurs y p ≡ 0) → sumBelow (λ y. occurs y p) n ≡ length p
 unfolding occurs
-total-occurs n [] h = total-zero n
-total-occurs n (x ∷ p) h =
+sum-occurs n [] h = sum-zero n
+sum-occurs n (x ∷ p) h =
     by-lt x n
     (λ l. omega (
       arith,
-      total-plus n (λ y. hit y x) (λ y. occurs y p),
-      total-hit n x,
+      sum-plus (λ y. hit y x) (λ y. occurs y p) n,
+      sum-hit n x,
       one-lt x n l,
-      total-occurs n p (λ y k. omega (arith, h y k)),
+      sum-occurs n p (λ y k. omega (arith, h y k)),
     ))
     (λ l. absurd (omega (arith, h x l, hit-same x x refl)))
 
@@ -108,8 +111,8 @@ room-all n y = go (ltb y n)
 pub permutes : (n : ℕ) (p : List ℕ) → length p ≡ n → permutationFault n 0 [] p ≡ none → Permutes n p
 permutes n p e f =
     let most : (y : ℕ) → occurs y p ≤ one (ltb y n) = λ y. omega (arith, fault-room n 0 [] p f y, room-all n y) in
-    let all = total-full n (λ y. occurs y p) (λ y l. omega (arith, most y, one-lt y n l))
-    (total-occurs n p (λ y k. omega (arith, most y, one-ge y n k)) ∙ e) in
+    let all = sum-full (λ y. occurs y p) n (λ y l. omega (arith, most y, one-lt y n l))
+    (sum-occurs n p (λ y k. omega (arith, most y, one-ge y n k)) ∙ e) in
     record {
       count = e;
       each = λ y. by-lt y n (λ l. omega (arith, all y l, one-lt y n l)) (λ k. omega (arith, most y, one-ge y n k));
@@ -162,11 +165,6 @@ pub occurs-append : (y : ℕ) (p q : List ℕ) → occurs y (p ++ q) ≡ occurs 
 unfolding occurs
 occurs-append y [] q = omega arith
 occurs-append y (x ∷ p) q = omega (arith, occurs-append y p q)
-
-pub length-listed : (n : ℕ) (f : ℕ → ℕ) → length (listed n f) ≡ n
-unfolding listed
-length-listed zero f = refl
-length-listed (suc n) f = omega (arith, length-append (listed n f) (f n ∷ []), length-listed n f)
 
 pub occurs-never : (n : ℕ) (f : ℕ → ℕ) (y : ℕ) → ((x : ℕ) → x < n → y ≢ f x) → occurs y (listed n f) ≡ 0
 unfolding listed occurs

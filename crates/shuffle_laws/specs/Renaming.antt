@@ -11,9 +11,11 @@ use borrow.Author.Tests.{ltb-true, lt-ltb, le-ltb}
 use Rattle.rules.specs.Vector.{entry}
 use Rattle.rules.specs.Tree.{Tree, leaf, node, has, Clade, LeavesBelow}
 use Rattle.rules.specs.Shuffle.{renamed}
-use Rattle.merging.specs.Bools.{both}
+use Rattle.basics.specs.Bools.{both}
 use Rattle.merging.specs.Once.{hit-same, hit-other}
-use Rattle.shuffle_laws.specs.Count.{by-lt, by-eq, one-lt, one-ge, leafTimes, has-times, times-has, below-times, times-below}
+use Rattle.basics.specs.Cases.{by-lt, by-eq}
+use Rattle.basics.specs.Sums.{one-lt, one-ge}
+use Rattle.shuffle_laws.specs.Count.{leafTimes, has-times, times-has, below-times, times-below}
 use Rattle.shuffle_laws.specs.Permutation.{Permutes, entry-below, entry-injective, entry-onto}
 
 -- all leaves of the tree are below n

@@ -14,9 +14,9 @@ use Rattle.rules.specs.Building.{Merge}
 use Rattle.rules.specs.Tree.{Tree, leaf, node, least, Clusters, joined, grown}
 use Rattle.rules.specs.Table.{Row, Fault, childrenBelow, namedTwice, rowFault, tableFault, nodesOf, tableTree}
 use Rattle.rules.specs.Shuffle.{renamed, permutationFault}
-use Rattle.merging.specs.Bools.{and-left, and-right}
+use Rattle.basics.specs.Bools.{and-left, and-right}
 use Rattle.merging.specs.Named.{Rising}
-use Rattle.shuffle_laws.specs.Count.{by-lt, by-eq}
+use Rattle.basics.specs.Cases.{by-lt, by-eq}
 use Rattle.shuffle_laws.specs.Permutation.{Permutes, permutes, entry-below, entry-injective}
 
 -- rows t, t + 1, .. have the parents n + t, n + t + 1, .., and children below them

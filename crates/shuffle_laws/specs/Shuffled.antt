@@ -15,19 +15,14 @@ use Rattle.rules.specs.Tree.{Tree, leaf, node, least, size, LeavesBelow}
 use Rattle.rules.specs.Order.{order, entryAt, listed, vectorOf}
 use Rattle.rules.specs.Shuffle.{renamed, Queue, Given, behind, taken, given, newOf}
 use Rattle.merging.specs.Once.{hit-same}
-use Rattle.shuffle_laws.specs.Count.{by-eq, one-le, one-lt-below, leafTimes, below-times, size-below}
-use Rattle.shuffle_laws.specs.Permutation.{length-listed}
+use Rattle.basics.specs.Listed.{length-listed, listed-at}
+use Rattle.basics.specs.Cases.{by-eq}
+use Rattle.basics.specs.Sums.{one-le, one-lt-below}
+use Rattle.clades.specs.Size.{size-below}
+use Rattle.shuffle_laws.specs.Count.{leafTimes, below-times}
 use Rattle.shuffle_laws.specs.Taken.{nodes, nodesIn, weigh, weigh-append, weigh-behind, nodes-behind, nodes-inner, size-inner, allGiven, new-permutes}
 use Rattle.shuffle_laws.specs.Renaming.{renamed-below}
 use Rattle.shuffle_laws.specs.Falling.{Falling, falling-down, tops-leaves, Down, ordered-down, down-entry}
-
-pub getD-listed : (n : ℕ) (f : ℕ → ℕ) (i : ℕ) → i < n → getD (listed n f) i 0 ≡ f i
-unfolding listed
-getD-listed zero f i h = absurd (omega arith)
-getD-listed (suc n) f i h =
-    by-eq i n
-    (λ e. rw e (getD-at (listed n f) (f n) [] 0 n (length-listed n f)))
-    (λ d. List·getD-append (listed n f) (f n ∷ []) 0 i (omega (arith, length-listed n f, d)) ∙ getD-listed n f i (omega (arith, d)))
 
 -- the tree with leaf x renamed f x
 unfoldable pub relabelled : (ℕ → ℕ) → Tree → Tree
@@ -165,13 +160,13 @@ taken-fits (suc k) next ((node s t, b) ∷ q) h o l =
 
 new-entry : (t : Tree) (x : ℕ) → x < size t → entry (newOf t) x ≡ given (allGiven t) x
 unfolding entry newOf
-new-entry t x h = getD-listed (size t) (given (allGiven t)) x h
+new-entry t x h = listed-at (size t) (given (allGiven t)) x h
 
 pub renamed-new : {n : ℕ} {t : Tree} → LeavesBelow n t → renamed (newOf t) t ≡ relabelled (given (allGiven t)) t
 renamed-new {n} {t} b =
     sym (relabelled-renamed (newOf t) t)
     ∙ relabelled-cong (entry (newOf t)) (given (allGiven t)) t
-    (λ x h. new-entry t x (omega (arith, size-below b, one-lt-below x n (omega (arith, below-times b x)))))
+    (λ x h. new-entry t x (omega (arith, size-below _ _ b, one-lt-below x n (omega (arith, below-times b x)))))
 
 -- the shuffled tree falls from 1 on, and its least leaf is 0
 pub shuffled-falls : {n : ℕ} {t : Tree} → LeavesBelow n t → Fits (given (allGiven t)) 1 t 0
@@ -186,20 +181,20 @@ unfolding order Fits
 shuffled-down {n} {t} b =
     let c : LeavesBelow n (renamed (newOf t) t) = renamed-below (new-permutes b) b in
     let z : least (renamed (newOf t) t) ≡ 0 = ap least (renamed-new b) ∙ shuffled-falls b .0 in
-    let m : suc (n - 1) ≡ n = omega (arith, size-below b, size-inner t) in
-    rw (size-below c)
+    let m : suc (n - 1) ≡ n = omega (arith, size-below _ _ b, size-inner t) in
+    rw (size-below _ _ c)
     (ordered-down (n - 1) 1 (renamed (newOf t) t) (rw (renamed-new b) (shuffled-falls b .1))
     (λ x. rw m ((rw z at (tops-leaves x (renamed (newOf t) t))) ∙ below-times c x)))
 
 pub shuffled-length : {n : ℕ} {t : Tree} → LeavesBelow n t → length (vectorOf (renamed (newOf t) t)) ≡ n
 unfolding vectorOf
 shuffled-length {n} {t} b =
-    length-listed (size (renamed (newOf t) t)) (entryAt (order (renamed (newOf t) t))) ∙ size-below (renamed-below (new-permutes b) b)
+    length-listed (size (renamed (newOf t) t)) (entryAt (order (renamed (newOf t) t))) ∙ size-below _ _ (renamed-below (new-permutes b) b)
 
 -- The shuffled vector is ordered: v(i) < i for all i >= 1.
 pub shuffled-ordered : {n : ℕ} {t : Tree} → LeavesBelow n t → (i : ℕ) → 1 ≤ i → i < n → entry (vectorOf (renamed (newOf t) t)) i < i
 unfolding vectorOf entry
 shuffled-ordered {n} {t} b i h l =
     let c : LeavesBelow n (renamed (newOf t) t) = renamed-below (new-permutes b) b in
-    rw (getD-listed (size (renamed (newOf t) t)) (entryAt (order (renamed (newOf t) t))) i (omega (arith, size-below c)))
+    rw (listed-at (size (renamed (newOf t) t)) (entryAt (order (renamed (newOf t) t))) i (omega (arith, size-below _ _ c)))
     (down-entry (n - 1) (order (renamed (newOf t) t)) i (shuffled-down b) h (omega arith))

@@ -15,7 +15,10 @@ use Rattle.rules.specs.Tree.{Tree, leaf, node, least, size, LeavesBelow}
 use Rattle.rules.specs.Order.{listed}
 use Rattle.rules.specs.Shuffle.{permutationFault, Queue, Given, behind, taken, given, newOf}
 use Rattle.merging.specs.Once.{hit, hit-same, hit-other}
-use Rattle.shuffle_laws.specs.Count.{one-more, one, by-lt, by-eq, one-le, one-lt, one-ge, one-lt-below, leafTimes, below-times, size-below}
+use Rattle.basics.specs.Cases.{by-lt, by-eq}
+use Rattle.basics.specs.Sums.{one, one-le, one-lt, one-ge, one-lt-below}
+use Rattle.clades.specs.Size.{size-below}
+use Rattle.shuffle_laws.specs.Count.{one-more, leafTimes, below-times}
 use Rattle.shuffle_laws.specs.Permutation.{Permutes, no-fault, one-to-one}
 
 -- how many inner nodes, and how many nodes a tree has
@@ -190,10 +193,10 @@ label-given b t =
 -- Queue Shuffle's result is a permutation: n values, each number below n once.
 pub new-permutes : {n : ℕ} {t : Tree} → LeavesBelow n t → Permutes n (newOf t)
 unfolding newOf
-new-permutes {n} {t} b = subst (λ (m : ℕ). Permutes m (listed (size t) (given (allGiven t)))) (size-below b) main
+new-permutes {n} {t} b = subst (λ (m : ℕ). Permutes m (listed (size t) (given (allGiven t)))) (size-below _ _ b) main
   where
     once : (x : ℕ) → x < size t → 1 ≤ leafGiven x (allGiven t)
-    once x h = omega (arith, leaf-given x t, below-times b x, one-lt x n (omega (arith, size-below b)))
+    once x h = omega (arith, leaf-given x t, below-times b x, one-lt x n (omega (arith, size-below _ _ b)))
 
     main : Permutes (size t) (listed (size t) (given (allGiven t)))
     main =

@@ -13,7 +13,7 @@ use borrow.Author.Tests.{ltb-true, eqb-true, eqb-false, eq-eqb, ne-eqb, lt-ltb}
 use Rattle.rules.specs.Vector.{entry, Valid}
 use Rattle.rules.specs.Building.{Merge}
 use Rattle.rules.specs.Table.{Row, Fault, rowsFrom, rowFault, tableFault, childrenBelow, namedTwice}
-use Rattle.merging.specs.Bools.{and-left, and-right, or-cases, or-left, or-right}
+use Rattle.basics.specs.Bools.{and-left, and-right, or-cases, or-left, or-right}
 use Rattle.merging.specs.Insertion.{pairsOf, pairs}
 use Rattle.merging.specs.Greedy.{Under, under-pairs}
 use Rattle.merging.specs.Named.{named, Good, good}

@@ -7,7 +7,7 @@ use native.Mathlib.Omega.{arith}
 use lib.Dec.{ltb}
 use borrow.Author.Tests.{ltb-true, ltb-false}
 use Rattle.grammar.specs.Decimal.{digitCount}
-use Rattle.grammar.specs.Sums.{sumBelow}
+use Rattle.basics.specs.Sums.{sumBelow}
 use Rattle.grammar.specs.Length.{textLength}
 
 one-more : (n : ℕ) → n + (n - 10) + (n - 100) + (n - 1000) + digitCount n ≡ suc n + (suc n - 10) + (suc n - 100) + (suc n - 1000)

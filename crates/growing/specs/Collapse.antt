@@ -11,11 +11,11 @@ use borrow.Author.Tests.{eqb-true, lt-ltb, le-ltb, eq-eqb, ne-eqb}
 use Rattle.rules.specs.Building.{Merge}
 use Rattle.rules.specs.Tree.{Tree, leaf, node, has, least, size, Distinct}
 use Rattle.rules.specs.Order.{ready, isMerge, collapse}
-use Rattle.merging.specs.Bools.{or-left, or-no, or-comm, and-left, and-right}
-use Rattle.clades.specs.Leaves.{distinct-swap}
+use Rattle.basics.specs.Bools.{or-left, or-no, or-comm, and-left, and-right}
+use Rattle.clades.specs.Leaves.{has-left, distinct-swap}
 use Rattle.clades.specs.Form.{join, form, form-has, form-least, form-size, form-distinct, form-swap}
-use Rattle.clades.specs.Grown.{graft, has-graft, graft-other, least-graft, size-graft, join-graft}
-use Rattle.clades.specs.Ready.{Ready, Sides, ready-sides, ready-has, ready-rising}
+use Rattle.growing.specs.Grown.{graft, has-graft, graft-other, least-graft, size-graft, join-graft}
+use Rattle.growing.specs.Ready.{Ready, Sides, ready-sides, ready-has, ready-rising}
 
 pub is-merge : (m : Merge) (o : Option Merge) → isMerge m o ≡ true → o ≡ some m
 unfolding isMerge
@@ -119,7 +119,7 @@ collapsed-left m l r u D h k C = record {
   form-back =
       ap₂ join (C .form-back) (sym (graft-other m (form r) (form-has r (m .0) ∙ lacks l r D (m .0) (k .0)))) ∙ join-graft m h (form u) (form r);
   once = (λ x p q. D .0 x (collapsed-inside m l u C x p) q, C .once, D .2);
-  smaller = or-left (has u (m .0)) (has r (m .0)) (C .smaller);
+  smaller = has-left u r (m .0) (C .smaller);
   larger = rw (C .larger) (lacks l r D (m .1) (k .1));
 }
 

@@ -8,10 +8,9 @@ use native.Mathlib.Omega.{arith}
 use Rattle.rules.specs.Building.{Merge}
 use Rattle.rules.specs.Tree.{Tree, leaf, node, Clusters, has, size, Distinct}
 use Rattle.rules.specs.Order.{ready}
-use Rattle.merging.specs.Bools.{or-cases, or-left, or-right}
-use Rattle.clades.specs.Leaves.{Inside}
-use Rattle.clades.specs.Grown.{filled, graft}
-use Rattle.clades.specs.Ready.{Ready}
+use Rattle.clades.specs.Leaves.{Inside, has-left, has-right, has-cases}
+use Rattle.growing.specs.Grown.{filled, graft}
+use Rattle.growing.specs.Ready.{Ready}
 
 -- s is the part of the tree at one of its nodes
 unfoldable pub Part : Tree → Tree → Type 0
@@ -27,14 +26,14 @@ pub part-inside : (s t : Tree) → Part s t → Inside s t
 unfolding Part Inside has
 part-inside s (leaf y) e x h = rw e at h
 part-inside s (node l r) (inl e) x h = rw e at h
-part-inside s (node l r) (inr (inl k)) x h = or-left (has l x) (has r x) (part-inside s l k x h)
-part-inside s (node l r) (inr (inr k)) x h = or-right (has l x) (has r x) (part-inside s r k x h)
+part-inside s (node l r) (inr (inl k)) x h = has-left l r x (part-inside s l k x h)
+part-inside s (node l r) (inr (inr k)) x h = has-right l r x (part-inside s r k x h)
 
 -- the two parts of a part
 pub part-inside-both : (l r t : Tree) → Part (node l r) t → Inside l t × Inside r t
 unfolding Inside has
 part-inside-both l r t k =
-    (λ x h. part-inside (node l r) t k x (or-left (has l x) (has r x) h), λ x h. part-inside (node l r) t k x (or-right (has l x) (has r x) h))
+    (λ x h. part-inside (node l r) t k x (has-left l r x h), λ x h. part-inside (node l r) t k x (has-right l r x h))
 
 pub part-size : (s t : Tree) → Part s t → size s ≤ size t
 unfolding Part size
@@ -61,7 +60,7 @@ part-filled c s (node l r) (inr (inr k)) = inr (inr (part-filled c s r k))
 pub part-own : (m : Merge) (t : Tree) → has t (m .0) ≡ true → Part (node (leaf (m .0)) (leaf (m .1))) (graft m t)
 unfolding Part graft has
 part-own m (leaf x) e = rw e (inl refl)
-part-own m (node l r) e = ⊎-elim (λ k. inr (inl (part-own m l k))) (λ k. inr (inr (part-own m r k))) (or-cases (has l (m .0)) (has r (m .0)) e)
+part-own m (node l r) e = ⊎-elim (λ k. inr (inl (part-own m l k))) (λ k. inr (inr (part-own m r k))) (has-cases l r (m .0) e)
 
 -- two leaves that are a part are a ready pair
 pub part-ready : (a b : ℕ) (t : Tree) → Part (node (leaf a) (leaf b)) t → Ready (min a b, max a b) t

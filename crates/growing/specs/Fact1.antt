@@ -15,11 +15,11 @@ use Rattle.rules.specs.Order.{best, collapse, order}
 use Rattle.merging.specs.Insertion.{pairs, Bounded}
 use Rattle.merging.specs.Greedy.{Greedy, greedy}
 use Rattle.merging.specs.Named.{Good, Rising, good, rising}
-use Rattle.clades.specs.Grown.{distinct-grown, grown-below}
-use Rattle.clades.specs.Ready.{Ready, Greatest, best-greatest, ready-has}
-use Rattle.clades.specs.Collapse.{open-left, open-right}
-use Rattle.clades.specs.Names.{pairs-named}
-use Rattle.clades.specs.OrderOf.{Step, order-induct, order-of-grown}
+use Rattle.growing.specs.Grown.{distinct-grown, grown-below}
+use Rattle.growing.specs.Ready.{Ready, Greatest, best-greatest, ready-has}
+use Rattle.growing.specs.Collapse.{open-left, open-right}
+use Rattle.merging.specs.Names.{pairs-named}
+use Rattle.growing.specs.OrderOf.{Step, order-induct, order-of-grown}
 
 -- the tree after some merges: a leaf is a complete cluster that is not merged yet
 unfoldable pub after : List Merge → Tree → Tree

@@ -9,11 +9,11 @@ use native.Mathlib.Omega.{arith}
 use lib.Dec.{eqb, ltb}
 use borrow.Author.Tests.{ltb-true, ltb-false, eqb-true, eqb-false, eq-eqb, ne-eqb}
 use Rattle.rules.specs.Building.{Merge}
-use Rattle.merging.specs.Bools.{or-cases, or-no, or-left, or-right, or-false}
+use Rattle.basics.specs.Bools.{or-cases, or-no, or-left, or-right, or-false}
 use Rattle.merging.specs.Once.{times, misses, hit-same, hit-other}
 use Rattle.merging.specs.Insertion.{pairsOf}
 use Rattle.merging.specs.Greedy.{Greedy, Under, under-pairs}
 use Rattle.merging.specs.Named.{named, Good, Rising, named-all}
 
 pub unnamed-times : (i : ℕ) (P : List Merge) → named P i ≡ false → times i P ≡ 0
 unfolding named times

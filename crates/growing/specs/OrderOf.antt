@@ -15,18 +15,18 @@ use borrow.Author.Tests.{ltb-true, lt-ltb, eqb-false, ne-eqb}
 use Rattle.rules.specs.Building.{Merge}
 use Rattle.rules.specs.Tree.{Tree, leaf, grown, has, least, size, Distinct, LeavesBelow, SameClades}
 use Rattle.rules.specs.Order.{best, collapse, ordered, order}
-use Rattle.merging.specs.Bools.{or-no, and-left, and-right}
+use Rattle.basics.specs.Bools.{or-no, and-left, and-right}
 use Rattle.merging.specs.Once.{times}
 use Rattle.merging.specs.Greedy.{touch, free, Ahead, Greedy, Under}
 use Rattle.merging.specs.Named.{named, Good, Rising}
-use Rattle.clades.specs.Leaves.{size-some, below-least}
-use Rattle.clades.specs.Count.{size-below}
+use Rattle.clades.specs.Leaves.{below-least}
+use Rattle.clades.specs.Size.{size-some, size-below}
 use Rattle.clades.specs.Form.{form, clades-up-to-turning}
-use Rattle.clades.specs.Grown.{graft, grown-graft, has-grown, size-grown}
-use Rattle.clades.specs.Ready.{Ready, Greatest, best-greatest, best-is, best-some, ready-has, ready-rising}
-use Rattle.clades.specs.Collapse.{Collapsed, collapsed, collapsed-has, collapsed-least, collapsed-size, Clear, ready-before}
-use Rattle.clades.specs.Graft.{collapse-graft, ready-graft, ready-own}
-use Rattle.clades.specs.Names.{named-times, under-named}
+use Rattle.growing.specs.Grown.{graft, grown-graft, has-grown, size-grown}
+use Rattle.growing.specs.Ready.{Ready, Greatest, best-greatest, best-is, best-some, ready-has, ready-rising}
+use Rattle.growing.specs.Collapse.{Collapsed, collapsed, collapsed-has, collapsed-least, collapsed-size, Clear, ready-before}
+use Rattle.growing.specs.Graft.{collapse-graft, ready-graft, ready-own}
+use Rattle.merging.specs.Names.{named-times, under-named}
 
 -- the order of the tree that merges build
 

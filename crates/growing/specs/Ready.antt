@@ -11,7 +11,8 @@ use borrow.Author.Tests.{ltb-true, ltb-false, eq-eqb}
 use Rattle.rules.specs.Building.{Merge}
 use Rattle.rules.specs.Tree.{Tree, leaf, node, has, Distinct}
 use Rattle.rules.specs.Order.{ready, greater, best}
-use Rattle.merging.specs.Bools.{or-left, or-right}
+use Rattle.basics.specs.Bools.{or-left, or-right}
+use Rattle.clades.specs.Leaves.{has-left, has-right}
 
 -- m is the merge of some node of the tree whose two parts are complete
 unfoldable pub Ready : Merge → Tree → Type 0
@@ -118,8 +119,8 @@ ready-has m (node l r) (inl e) = go (ready-sides m l r e .1)
     go : Sides m l r → (has l (m .0) || has r (m .0) ≡ true) × (has l (m .1) || has r (m .1) ≡ true)
     go (inl s) = rw (s .0, s .1) (first (m .0) (m .1), second (m .0) (m .1))
     go (inr s) = rw (s .0, s .1) (second (m .1) (m .0), first (m .1) (m .0))
-ready-has m (node l r) (inr (inl h)) = let k = ready-has m l h in (or-left (has l (m .0)) (has r (m .0)) (k .0), or-left (has l (m .1)) (has r (m .1)) (k .1))
-ready-has m (node l r) (inr (inr h)) = let k = ready-has m r h in (or-right (has l (m .0)) (has r (m .0)) (k .0), or-right (has l (m .1)) (has r (m .1)) (k .1))
+ready-has m (node l r) (inr (inl h)) = let k = ready-has m l h in (has-left l r (m .0) (k .0), has-left l r (m .1) (k .1))
+ready-has m (node l r) (inr (inr h)) = let k = ready-has m r h in (has-right l r (m .0) (k .0), has-right l r (m .1) (k .1))
 
 -- the smaller name of a ready pair is smaller, where no leaf stands twice
 pub ready-rising : (m : Merge) (t : Tree) → Distinct t → Ready m t → m .0 < m .1

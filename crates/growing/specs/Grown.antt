@@ -12,9 +12,10 @@ use lib.ListN.{length}
 use borrow.Author.Tests.{eqb-true, lt-ltb}
 use Rattle.rules.specs.Building.{Merge}
 use Rattle.rules.specs.Tree.{Tree, leaf, node, Clusters, joined, grown, has, least, size, Distinct, LeavesBelow}
-use Rattle.merging.specs.Bools.{or-cases, or-left, or-no, or-false, and-left, and-right}
+use Rattle.basics.specs.Bools.{or-cases, or-no, or-false, and-left, and-right}
 use Rattle.merging.specs.Named.{named, Good, Rising}
+use Rattle.clades.specs.Leaves.{has-left}
 use Rattle.clades.specs.Form.{join, form}
 
 -- a tree of clusters: each leaf is the cluster of its name
 unfoldable pub filled : Clusters → Tree → Tree
@@ -73,7 +74,7 @@ grown-keeps [] c x y h = h
 grown-keeps (m ∷ Q) c x y h = grown-keeps Q (joined m c) x y (go (eqb x (m .0)) refl)
   where
     go : (b : Bool) → eqb x (m .0) ≡ b → has (cond b (node (c (m .0)) (c (m .1))) (c x)) y ≡ true
-    go true q = or-left (has (c (m .0)) y) (has (c (m .1)) y) (rw (eqb-true x (m .0) q) at h)
+    go true q = has-left (c (m .0)) (c (m .1)) y (rw (eqb-true x (m .0) q) at h)
     go false q = h
 
 mix : (a p b q x : Bool) → (a || p && x) || (b || q && x) ≡ (a || b) || ((p || q) && x)

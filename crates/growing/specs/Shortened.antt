@@ -10,14 +10,14 @@ use lib.Dec.{eqb, ltb}
 use borrow.Author.Tests.{ltb-true, ltb-false, lt-ltb, le-ltb, eqb-true, eqb-false, eq-eqb}
 use Rattle.rules.specs.Building.{Merge}
 use Rattle.rules.specs.Tree.{Tree, leaf, node, grown, has}
-use Rattle.merging.specs.Bools.{or-left, or-right}
 use Rattle.merging.specs.Insertion.{pairsOf, Bounded}
 use Rattle.merging.specs.Once.{without, without-insert, never, fits}
 use Rattle.merging.specs.Greedy.{Under, under-pairs}
 use Rattle.merging.specs.Named.{named, Good, Rising, good, rising}
-use Rattle.clades.specs.Grown.{graft, grown-graft, has-grown}
-use Rattle.clades.specs.Names.{under-unnamed, pairs-named}
+use Rattle.growing.specs.Grown.{graft, grown-graft, has-grown}
+use Rattle.merging.specs.Names.{under-unnamed, pairs-named}
+use Rattle.clades.specs.Leaves.{has-left, has-right}
 use Rattle.clades.specs.Pruned.{beside, pruned, pruned-twice, pruned-all}
 
 -- the leaves below n
 unfoldable pub keepBelow : ℕ → ℕ → Bool
@@ -55,7 +55,7 @@ graft-lost keep m q (leaf x) h = go (eqb x (m .0)) refl
     go true e = rw (sym (eqb-true x (m .0) e), h x (eq-eqb x x refl), q)
     go false e = rw (h x (eq-eqb x x refl))
 graft-lost keep m q (node l r) h =
-    rw (graft-lost keep m q l (λ x e. h x (or-left (has l x) (has r x) e)), graft-lost keep m q r (λ x e. h x (or-right (has l x) (has r x) e)))
+    rw (graft-lost keep m q l (λ x e. h x (has-left l r x e)), graft-lost keep m q r (λ x e. h x (has-right l r x e)))
 
 -- where all larger names are at most k and none is k, all names are below k
 below-last : (k : ℕ) (P : List Merge) → 1 ≤ k → Under (suc k) P → named P k ≡ false → (x : ℕ) → named P x ≡ true → x < k

@@ -11,10 +11,10 @@ use borrow.Author.Tests.{eqb-true, eqb-false}
 use Rattle.rules.specs.Building.{Merge}
 use Rattle.rules.specs.Tree.{Tree, leaf, node, has}
 use Rattle.rules.specs.Order.{ready, collapse}
-use Rattle.merging.specs.Bools.{or-cases}
-use Rattle.clades.specs.Grown.{graft}
-use Rattle.clades.specs.Ready.{Ready, Sides, ready-sides}
-use Rattle.clades.specs.Collapse.{Cases, collapse-cases, collapse-here, Clear}
+use Rattle.clades.specs.Leaves.{has-cases}
+use Rattle.growing.specs.Grown.{graft}
+use Rattle.growing.specs.Ready.{Ready, Sides, ready-sides}
+use Rattle.growing.specs.Collapse.{Cases, collapse-cases, collapse-here, Clear}
 
 pub pair-ready : (m : Merge) → m .0 < m .1 → ready (leaf (m .0)) (leaf (m .1)) ≡ some m
 unfolding ready
@@ -65,7 +65,7 @@ pub ready-own : (m : Merge) → m .0 < m .1 → (t : Tree) → has t (m .0) ≡ 
 unfolding Ready graft has
 ready-own m h (leaf x) e = rw e (inl (pair-ready m h))
 ready-own m h (node l r) e =
-    ⊎-elim (λ k. inr (inl (ready-own m h l k))) (λ k. inr (inr (ready-own m h r k))) (or-cases (has l (m .0)) (has r (m .0)) e)
+    ⊎-elim (λ k. inr (inl (ready-own m h l k))) (λ k. inr (inr (ready-own m h r k))) (has-cases l r (m .0) e)
 
 -- a merge undoes its graft
 pub collapse-graft : (m : Merge) → m .0 < m .1 → (t : Tree) → collapse m (graft m t) ≡ t

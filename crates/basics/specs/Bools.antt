@@ -1,4 +1,4 @@
--- Small laws of the tests: or, and.
+-- Small laws of tests: or, and.
 use mathlib.Core.Path.{_≡_, refl, sym}
 use mathlib.Core.Logic.{_⊎_, inl, inr}
 use mathlib.Core.Bool.{Bool, true, false, _&&_, _||_, false≢true, true≢false}
@@ -37,6 +37,9 @@ and-left false b e = e
 pub and-right : (a b : Bool) → a && b ≡ true → b ≡ true
 and-right true b e = e
 and-right false b e = absurd (false≢true e)
+
+pub and-both : (a b : Bool) → a && b ≡ true → (a ≡ true) × (b ≡ true)
+and-both a b e = (and-left a b e, and-right a b e)
 
 pub or-comm : (a b : Bool) → a || b ≡ b || a
 or-comm true true = refl

@@ -1,34 +1,31 @@
 -- The list f 0, f 1, .., f (n-1) and its entries.
--- Main results: length-listed, entry-listed, listed-cong, listed-entries.
-use mathlib.Core.Path.{_≡_, refl, sym, ap, ap₂, _∙_}
-use mathlib.Core.Bool.{Bool, true, false}
+-- Main results: length-listed, listed-at, entry-listed, listed-cong, listed-entries.
+use mathlib.Core.Path.{_≡_, refl, sym, ap₂, _∙_}
 use mathlib.Core.List.{List, [], _∷_, _++_}
 use Prim.Native.Nat.{ℕ, zero, suc, _≤_, _<_}
 use native.Mathlib.Omega.{arith}
-use lib.Dec.{eqb}
 use lib.ListN.{length, getD, length-append, List·getD-append, take}
-use lib.Seq.{getD-append-seam, take-suc}
-use borrow.Author.Tests.{eqb-true, eqb-false}
+use lib.Seq.{getD-at, take-suc}
 use Rattle.rules.specs.Vector.{entry}
 use Rattle.rules.specs.Order.{listed}
+use Rattle.basics.specs.Cases.{by-eq}
 
 pub length-listed : (n : ℕ) (f : ℕ → ℕ) → length (listed n f) ≡ n
 unfolding listed
 length-listed zero f = refl
 length-listed (suc n) f = omega (arith, length-append (listed n f) (f n ∷ []), length-listed n f)
 
+pub listed-at : (n : ℕ) (f : ℕ → ℕ) (i : ℕ) → i < n → getD (listed n f) i 0 ≡ f i
+unfolding listed
+listed-at zero f i h = absurd (omega arith)
+listed-at (suc n) f i h =
+    by-eq i n
+    (λ e. rw e (getD-at (listed n f) (f n) [] 0 n (length-listed n f)))
+    (λ d. List·getD-append (listed n f) (f n ∷ []) 0 i (omega (arith, length-listed n f, d)) ∙ listed-at n f i (omega (arith, d)))
+
 pub entry-listed : (n : ℕ) (f : ℕ → ℕ) (i : ℕ) → i < n → entry (listed n f) i ≡ f i
-unfolding listed entry
-entry-listed zero f i h = absurd (omega arith)
-entry-listed (suc n) f i h = go (eqb i n) refl (entry-listed n f i)
-  where
-    go : (b : Bool) → eqb i n ≡ b → (i < n → getD (listed n f) i 0 ≡ f i) → getD (listed n f ++ (f n ∷ [])) i 0 ≡ f i
-    go true q ih =
-        let e : i ≡ length (listed n f) = eqb-true i n q ∙ sym (length-listed n f) in
-        rw e (getD-append-seam (listed n f) (f n) [] 0) ∙ ap f (sym (eqb-true i n q))
-    go false q ih =
-        let l : i < n = omega (arith, eqb-false i n q) in
-        List·getD-append (listed n f) (f n ∷ []) 0 i (omega (arith, length-listed n f)) ∙ ih l
+unfolding entry
+entry-listed = listed-at
 
 pub listed-cong : (n : ℕ) (f g : ℕ → ℕ) → ((i : ℕ) → i < n → f i ≡ g i) → listed n f ≡ listed n g
 unfolding listed

@@ -13,18 +13,18 @@ use borrow.Author.Tests.{eq-eqb}
 use Rattle.rules.specs.Vector.{entry}
 use Rattle.rules.specs.Building.{Merge}
 use Rattle.rules.specs.Tree.{leaf, node, Clusters, grown, has}
-use Rattle.merging.specs.Bools.{or-left, or-right}
+use Rattle.basics.specs.Bools.{or-left, or-right}
 use Rattle.merging.specs.Insertion.{pairs, Bounded}
 use Rattle.merging.specs.Once.{times}
 use Rattle.merging.specs.Greedy.{Greedy, greedy}
 use Rattle.merging.specs.Named.{named, Good, Rising, good, rising}
 use Rattle.clades.specs.Leaves.{Inside}
-use Rattle.clades.specs.Grown.{filled, grown-filled, grown-graft, grown-append, grown-keeps, has-grown, distinct-grown}
-use Rattle.clades.specs.Names.{rest-there, there-rest, good-rest, rising-rest, greedy-rest}
-use Rattle.clades.specs.Ready.{Ready, Greatest}
-use Rattle.clades.specs.Fact1.{after, fact-1-grown}
-use Rattle.clades.specs.Clusters.{clusters-ready}
-use Rattle.clades.specs.Part.{Part, part-inside-both, part-filled, part-own}
+use Rattle.growing.specs.Grown.{filled, grown-filled, grown-graft, grown-append, grown-keeps, has-grown, distinct-grown}
+use Rattle.merging.specs.Names.{rest-there, there-rest, good-rest, rising-rest, greedy-rest}
+use Rattle.growing.specs.Ready.{Ready, Greatest}
+use Rattle.growing.specs.Fact1.{after, fact-1-grown}
+use Rattle.growing.specs.Clusters.{clusters-ready}
+use Rattle.growing.specs.Part.{Part, part-inside-both, part-filled, part-own}
 
 -- after the merges Q, of the tree that the merges P build: p is one of its pairs, both its clusters are there and neither is merged away
 pub record Complete (Q P : List Merge) (p : Merge) : Type 0 where

@@ -7,25 +7,25 @@ use Prim.Native.Nat.{ℕ, min, max}
 use native.Mathlib.Omega.{arith}
 use borrow.Author.Tests.{eqb-true, eq-eqb}
 use Rattle.rules.specs.Tree.{Tree, leaf, node, Clusters, has, least, size, Distinct}
-use Rattle.merging.specs.Bools.{or-cases, or-left, or-right}
-use Rattle.clades.specs.Leaves.{Inside, least-in, size-some, only-leaf}
-use Rattle.clades.specs.Grown.{filled}
-use Rattle.clades.specs.Ready.{Ready}
-use Rattle.clades.specs.Part.{Part, part-inside-both, part-size, part-distinct, part-ready}
+use Rattle.clades.specs.Leaves.{Inside, has-left, has-right, has-cases, least-has, only-leaf}
+use Rattle.clades.specs.Size.{size-some}
+use Rattle.growing.specs.Grown.{filled}
+use Rattle.growing.specs.Ready.{Ready}
+use Rattle.growing.specs.Part.{Part, part-inside-both, part-size, part-distinct, part-ready}
 
 module _ (c : Clusters) where
   pub filled-has : (u : Tree) (x y : ℕ) → has u x ≡ true → has (c x) y ≡ true → has (filled c u) y ≡ true
   unfolding filled has
   filled-has (leaf z) x y h e = rw (eqb-true z x h) e
   filled-has (node l r) x y h e =
-      ⊎-elim (λ k. or-left (has (filled c l) y) (has (filled c r) y) (filled-has l x y k e))
-      (λ k. or-right (has (filled c l) y) (has (filled c r) y) (filled-has r x y k e)) (or-cases (has l x) (has r x) h)
+      ⊎-elim (λ k. has-left (filled c l) (filled c r) y (filled-has l x y k e))
+      (λ k. has-right (filled c l) (filled c r) y (filled-has r x y k e)) (has-cases l r x h)
 
   -- a leaf is in one cluster only
   pub filled-one : (u : Tree) → Distinct (filled c u) → (a x y : ℕ) → has u a ≡ true → has u x ≡ true → has (c a) y ≡ true → has (c x) y ≡ true → a ≡ x
   unfolding filled has Distinct
   filled-one (leaf z) D a x y h k e f = sym (eqb-true z a h) ∙ eqb-true z x k
-  filled-one (node l r) D a x y h k e f = go (or-cases (has l a) (has r a) h) (or-cases (has l x) (has r x) k) (filled-one l (D .1) a x y) (filled-one r (D .2) a x y)
+  filled-one (node l r) D a x y h k e f = go (has-cases l r a h) (has-cases l r x k) (filled-one l (D .1) a x y) (filled-one r (D .2) a x y)
     where
       go : (has l a ≡ true) ⊎ (has r a ≡ true) → (has l x ≡ true) ⊎ (has r x ≡ true)
           → (has l a ≡ true → has l x ≡ true → has (c a) y ≡ true → has (c x) y ≡ true → a ≡ x)
@@ -44,15 +44,15 @@ module _ (c : Clusters) where
   lies s (leaf z) k = inl (z, eq-eqb z z refl, k)
   lies s (node l r) (inl e) = inr (l, r, inl refl, e)
   lies s (node l r) (inr (inl k)) =
-      ⊎-elim (λ h. inl (h .0, or-left (has l (h .0)) (has r (h .0)) (h .1), h .2)) (λ h. inr (h .0, h .1, inr (inl (h .2)), h .3)) (lies s l k)
+      ⊎-elim (λ h. inl (h .0, has-left l r (h .0) (h .1), h .2)) (λ h. inr (h .0, h .1, inr (inl (h .2)), h .3)) (lies s l k)
   lies s (node l r) (inr (inr k)) =
-      ⊎-elim (λ h. inl (h .0, or-right (has l (h .0)) (has r (h .0)) (h .1), h .2)) (λ h. inr (h .0, h .1, inr (inr (h .2)), h .3)) (lies s r k)
+      ⊎-elim (λ h. inl (h .0, has-right l r (h .0) (h .1), h .2)) (λ h. inr (h .0, h .1, inr (inr (h .2)), h .3)) (lies s r k)
 
   -- a part of the tree that is filled to one cluster is that cluster's leaf
   alone : (u : Tree) → Distinct u → Distinct (filled c u) → (a : ℕ) → has u a ≡ true → (l : Tree) → Distinct l → Inside l u → c a ≡ filled c l → l ≡ leaf a
   unfolding Inside
   alone u D E a h l Dl i e = only-leaf a l Dl (λ x k.
-      sym (filled-one u E a x (least (c x)) h (i x k) (rw e (filled-has l x (least (c x)) k (least-in (c x)))) (least-in (c x))))
+      sym (filled-one u E a x (least (c x)) h (i x k) (rw e (filled-has l x (least (c x)) k (least-has (c x)))) (least-has (c x))))
 
   -- a fork of the tree that is filled to two clusters is a ready pair
   two-clusters : (u : Tree) → Distinct u → Distinct (filled c u) → (a b : ℕ) → has u a ≡ true → has u b ≡ true
@@ -70,7 +70,7 @@ module _ (c : Clusters) where
   unfolding Inside size
   not-within u E a b x h k p =
       let y = least (c a) in
-      let e : a ≡ x = filled-one u E a x y h k (least-in (c a)) (part-inside-both (c a) (c b) (c x) p .0 y (least-in (c a))) in
+      let e : a ≡ x = filled-one u E a x y h k (least-has (c a)) (part-inside-both (c a) (c b) (c x) p .0 y (least-has (c a))) in
       omega (arith, part-size (node (c a) (c b)) (c x) p, size-some (c b), ap (λ (z : ℕ). size (c z)) e)
 
   -- a pair of clusters that is a part of the filled tree is a ready pair of the tree

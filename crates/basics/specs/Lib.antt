@@ -1,0 +1,4 @@
+pub mod Bools
+pub mod Cases
+pub mod Listed
+pub mod Sums

@@ -1,0 +1,1 @@
+// Small laws that many crates need: no code here.
