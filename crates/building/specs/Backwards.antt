@@ -13,11 +13,11 @@ use Rattle.rules.specs.Vector.{entry, bound, Valid}
 use Rattle.rules.specs.Building.{Merge, merges}
 use Rattle.rules.specs.Order.{entryAt, listed}
 use Rattle.basics.specs.Bools.{or-no}
-use Rattle.merging.specs.Insertion.{put, insert, pairsOf, pairs, Bounded, put-zero, put-suc, pairs-length, pairs-cong}
+use Rattle.merging.specs.Insertion.{put, insert, pairsOf, pairs, Bounded, put-zero, put-suc, pairs-length, pairs-cong, valid-bounded}
 use Rattle.merging.specs.Once.{times, place, entryIn, without, once}
 use Rattle.merging.specs.Greedy.{touch, free, Ahead, Greedy, Under, under-pairs, greedy}
 use Rattle.merging.specs.Named.{named, Good, good, Rising, rising}
-use Rattle.building.specs.Built.{valid-bounded, merges-are-pairs}
+use Rattle.building.specs.Built.{merges-are-pairs}
 use Rattle.building.specs.Entry.{entry-last, entry-without}
 use Rattle.building.specs.Without.{once-at, times-without, rising-without, under-without, good-without, greedy-unput, place-below, length-without}
 use Rattle.basics.specs.Listed.{length-listed, entry-listed}

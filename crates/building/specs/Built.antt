@@ -9,10 +9,10 @@ use native.Mathlib.Omega.{arith}
 use lib.Dec.{eqb, ltb}
 use lib.ListN.{length}
 use borrow.Author.Tests.{ltb-true, ltb-false, lt-ltb, le-ltb, eq-eqb, ne-eqb}
-use Rattle.rules.specs.Vector.{entry, bound, Valid}
+use Rattle.rules.specs.Vector.{entry, Valid}
 use Rattle.rules.specs.Building.{Merge, State, start, below, sees, next, merge, follow, steps, merges}
 use Rattle.basics.specs.Bools.{and-false}
-use Rattle.merging.specs.Insertion.{Bounded, put, insert, pairsOf, pairs, put-zero, put-suc, pairs-length}
+use Rattle.merging.specs.Insertion.{Bounded, valid-bounded, put, insert, pairsOf, pairs, put-zero, put-suc, pairs-length, pairs-count}
 use Rattle.building.specs.Labels.{used-merge, unused-below}
 use Rattle.building.specs.Next.{sees-none, sees-at, Ready, next-ready, next-dead, next-blind, next-takes, Agree, next-cong, merge-cong}
 
@@ -152,15 +152,6 @@ pub built : (v : ℕ → ℕ) (n : ℕ) → Bounded v n → steps v n (n - 1) st
 unfolding steps pairsOf
 built v zero ok = refl
 built v (suc m) ok = rw (let e : suc m - 1 ≡ m = omega arith in e) (built-suc v m ok)
-
-pub pairs-count : (v : ℕ → ℕ) (n : ℕ) → length (pairsOf v n) ≡ n - 1
-unfolding pairsOf
-pairs-count v zero = refl
-pairs-count v (suc m) = omega (arith, pairs-length v m)
-
-pub valid-bounded : (v : List ℕ) → Valid v → Bounded (entry v) (length v)
-unfolding Bounded bound
-valid-bounded v ok = ok .bounded
 
 pub merges-are-pairs : (v : List ℕ) → Valid v → merges v ≡ pairs v
 unfolding merges pairs

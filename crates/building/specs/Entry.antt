@@ -13,12 +13,12 @@ use Rattle.rules.specs.Vector.{entry, Valid}
 use Rattle.rules.specs.Building.{Merge, merges}
 use Rattle.rules.specs.Order.{earlier, partner, entryFrom, entryAt, listed}
 use Rattle.basics.specs.Bools.{and-false}
-use Rattle.merging.specs.Insertion.{insert, pairsOf, pairs, Bounded}
+use Rattle.merging.specs.Insertion.{insert, pairsOf, pairs, Bounded, valid-bounded}
 use Rattle.merging.specs.Once.{times, place, entryIn, without, misses, never, fits, entryIn-insert, without-insert}
 use Rattle.merging.specs.Greedy.{Under, under-insert, under-pairs}
 use Rattle.merging.specs.Named.{Rising, rising-insert, rising}
 use Rattle.basics.specs.Listed.{listed-cong, listed-entries}
-use Rattle.building.specs.Built.{valid-bounded, merges-are-pairs, merges-length}
+use Rattle.building.specs.Built.{merges-are-pairs, merges-length}
 
 -- the last leaf sees all merges before its own
 earlier-last : (n : ℕ) (P : List Merge) → Rising P → Under (suc n) P → earlier n P ≡ place n P

@@ -11,10 +11,10 @@ use lib.Seq.{getD-take, getD-append-seam, length-take-le, take-at}
 use borrow.Author.Tests.{eqb-true, eqb-false, lt-ltb, le-ltb}
 use Rattle.rules.specs.Vector.{entry, bound, Valid}
 use Rattle.rules.specs.Building.{Merge, merges}
-use Rattle.merging.specs.Insertion.{put, insert, pairsOf, pairs, pairs-cong, pairs-snoc}
+use Rattle.merging.specs.Insertion.{put, insert, pairsOf, pairs, pairs-cong, pairs-snoc, pairs-count}
 use Rattle.merging.specs.Once.{without, never, without-insert}
 use Rattle.merging.specs.Greedy.{Under, under-pairs}
-use Rattle.building.specs.Built.{pairs-count, merges-are-pairs}
+use Rattle.building.specs.Built.{merges-are-pairs}
 
 -- the first m entries of a valid vector are a valid vector
 pub valid-take : (v : List ℕ) → Valid v → (m : ℕ) → 1 ≤ m → m ≤ length v → Valid (take m v)

@@ -1,9 +1,9 @@
 -- The form of a tree: each pair turned so that the smaller least leaf stands first. Clades fix a tree up to turning pairs.
--- Main definitions: join, form. Main results: form-clades, same-form, clades-up-to-turning, form-leaves-below, form-form.
+-- Main definitions: join, form, Turned. Main results: form-clades, form-turned, same-form, clades-up-to-turning, form-leaves-below, form-form.
 use mathlib.Core.Path.{_≡_, refl, sym, ap, ap₂, _∙_}
 use mathlib.Core.Logic.{_≢_, _⊎_, inl, inr, _↔_}
 use mathlib.Core.Bool.{Bool, true, false, cond}
-use Prim.Native.Nat.{ℕ, _+_, min}
+use Prim.Native.Nat.{ℕ, _+_, _<_, min}
 use native.Mathlib.Omega.{arith}
 use lib.Dec.{ltb}
 use borrow.Author.Tests.{ltb-true, ltb-false, eqb-true, lt-ltb, le-ltb, eq-eqb}
@@ -85,6 +85,26 @@ join-comm a b h = go (ltb (least a) (least b)) refl
 pub form-swap : (l r : Tree) → Distinct (node l r) → form (node l r) ≡ form (node r l)
 unfolding form
 form-swap l r D = join-comm (form l) (form r) (λ e. least-apart l r D (sym (form-least l) ∙ e ∙ form-least r))
+
+-- in each pair "the child with the smaller least leaf first"
+unfoldable pub Turned : Tree → Type 0
+unfolding least
+Turned (leaf x) = Unit {0}
+Turned (node l r) = (least l < least r) × Turned l × Turned r
+
+pub form-turned : (t : Tree) → Distinct t → Turned (form t)
+unfolding Turned form join Distinct
+form-turned (leaf x) D = tt
+form-turned (node l r) D = go (ltb (least (form l)) (least (form r))) refl (form-turned l (D .1)) (form-turned r (D .2))
+  where
+    go : (b : Bool) → ltb (least (form l)) (least (form r)) ≡ b → Turned (form l) → Turned (form r) → Turned (cond b (node (form l) (form r)) (node (form r) (form l)))
+    go true q a c = (ltb-true (least (form l)) (least (form r)) q, a, c)
+    go false q a c =
+        let f = ltb-false (least (form l)) (least (form r)) q in
+        let d = least-apart l r D in
+        let el = form-least l in
+        let er = form-least r in
+        (omega arith, c, a)
 
 swap-first : (l r u : Tree) → SameClades (node l r) u → SameClades (node r l) u
 swap-first l r u = same-trans (node r l) (node l r) u (same-turn r l)

@@ -17,7 +17,7 @@ use Rattle.rules.specs.Calls.{check, toTable, fromTable, toText, pack, unpack, 
 use Rattle.laws.specs.Answers.{reads-unique}
 use Rattle.demands.specs.Promise.{Call, one, checks, vector-to-table, table-to-vector, vector-to-text, text-to-vector, packs, unpacks, shuffles, relabels, Lent, room, Makes, Holds, Promise}
 use Rattle.demands.specs.Given.{VectorRefused, RelabelRefused, TableRefused, TextRefused, RecordRefused}
-use Rattle.demands.specs.Texts.{from-text-total, from-text-unique}
+use Rattle.grammar.specs.Unique.{from-text-total, from-text-unique}
 use Rattle.demands.specs.Settled.{Settled, settled-check, settled-table, settled-text, settled-pack, settled-shuffle, settled-shuffled, settled-relabel}
 use Rattle.demands.specs.SettledTable.{settled-from-table}
 use Rattle.demands.specs.SettledRecord.{settled-unpack}

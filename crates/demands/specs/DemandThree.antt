@@ -25,11 +25,12 @@ use Rattle.grammar.specs.Complete.{text-unique}
 use Rattle.grammar.specs.Faults.{no-fault-leaves}
 use Rattle.rows.specs.Forest.{rows-make-a-tree}
 use Rattle.rows.specs.Clades.{rows-clades}
+use Rattle.table_laws.specs.Flat.{rowsOf-length}
 use Rattle.demands.specs.Given.{CountWrong, CountRight, WithinBounds, First, Above, Unfit, labelNumbers, labelPlace, FirstRow, RowWrong, TableRefused, table-1, table-2, table-row, RecordRefused, record-short, record-1, record-2, record-4, record-10, TextRefused, text-1, text-9}
 use Rattle.demands.specs.FirstPlace.{Found, label-found, padding-found}
 use Rattle.demands.specs.FirstWrongRow.{row-found}
 use Rattle.demands.specs.Settled.{count-cases, equal-cases, above-cases}
-use Rattle.demands.specs.SettledTable.{rows-of-long, settled-from-table}
+use Rattle.demands.specs.SettledTable.{settled-from-table}
 use Rattle.demands.specs.SettledRecord.{settled-unpack, entries-made}
 use Rattle.demands.specs.SettledText.{labels-fit, settled-from-text}
 use Rattle.demands.specs.Answered.{Accepted, made-accepted, made-not-refuses}
@@ -76,7 +77,7 @@ table-leads n xs w e = go (count-cases n) (equal-cases (length xs) (3 * (n - 1))
     go (inr c) (inr l) (inr f) =
         let z : made w ≡ made (vectorOf (tableTree n (rowsOf xs))) =
         sym e ∙ rows-accepted n xs (c .0) (c .1) l (f .0) in
-        (c, rows-of-long (n - 1) xs l, f .0, cc)
+        (c, rowsOf-length (n - 1) xs l, f .0, cc)
 
 led-table : (n : ℕ) (xs w : List ℕ) → Leads (table n xs) w → Led (table n xs) w
 unfolding SameClades

@@ -8,11 +8,10 @@ use mathlib.Core.Path.{_≡_, refl, ap, _∙_, subst}
 use Prim.Native.Nat.{ℕ, suc, _≤_}
 use native.Mathlib.Omega.{arith}
 use lib.ListN.{length, drop}
-use borrow.Author.Tests.{lt-ltb}
 use Rattle.rules.specs.declared.Answer.{Answer}
 use Rattle.rules.specs.Vector.{Valid}
 use Rattle.rules.specs.Building.{merges}
-use Rattle.rules.specs.Tree.{Tree, leaf, node, least, treeOf}
+use Rattle.rules.specs.Tree.{treeOf}
 use Rattle.rules.specs.Order.{vectorOf}
 use Rattle.rules.specs.Table.{rowsFrom, tableRows, tableOf, rowsOf}
 use Rattle.rules.specs.Newick.{textOf, Text, labelsOf, labelFault}
@@ -21,23 +20,21 @@ use Rattle.rules.specs.Answer.{done, reads, Made, made, answer, after}
 use Rattle.rules.specs.Calls.{fromVector, check, toTable, fromTable, toText, FromText, reads-as, pack, unpack}
 use Rattle.building.specs.Backwards.{merges-in-order}
 use Rattle.building.specs.Built.{merges-length}
-use Rattle.laws.specs.TreeOf.{tree-leaves, vector-again}
+use Rattle.laws.specs.TreeOf.{tree-leaves, tree-form, vector-again}
 use Rattle.laws.specs.FromTable.{rows-accepted}
-use Rattle.laws.specs.Stands.{Stands, tree-stands}
 use Rattle.record_laws.specs.Inverse.{unpack-record}
-use Rattle.clades.specs.Form.{form, join}
 use Rattle.grammar.specs.Written.{leaves-text}
 use Rattle.grammar.specs.Faults.{leaves-no-fault, leaves-count}
 use Rattle.grammar.specs.Length.{text-length, text-length-most}
-use Rattle.table.specs.Rows.{rowsOf-flat}
-use Rattle.table.specs.Accepted.{table-accepted}
-use Rattle.table.specs.Grown.{table-tree}
+use Rattle.table_laws.specs.Flat.{rowsOf-flat}
+use Rattle.table_laws.specs.Accepted.{table-accepted}
+use Rattle.table_laws.specs.Grown.{table-tree}
 use Rattle.demands.specs.Promise.{one, vector-to-table, table-to-vector, vector-to-text, text-to-vector, packs, unpacks, Promise}
 use Rattle.demands.specs.Given.{CountRight, WithinBounds, VectorRefused}
 use Rattle.demands.specs.Settled.{vector-cases, vector-passes, vector-valid, settled-check, table-long}
 use Rattle.demands.specs.SettledText.{labels-fit}
 use Rattle.demands.specs.Answered.{made-accepted, written}
-use Rattle.demands.specs.Texts.{from-text-unique}
+use Rattle.grammar.specs.Unique.{from-text-unique}
 
 -- the vectors that the demand is about
 pub record Vector (v : List ℕ) : Type 0 where
@@ -83,17 +80,11 @@ table-back v W =
     ∙ ap made (ap vectorOf (rw (rows-again v) t) ∙ vector-again v (W .valid))
 
 -- a written text reads as the tree: each pair stands as it is written
-stands-form : (t : Tree) → Stands t → form t ≡ t
-unfolding form join Stands
-stands-form (leaf x) h = refl
-stands-form (node l r) h = rw (stands-form l (h .1), stands-form r (h .2), lt-ltb (least l) (least r) (h .0))
-
 pub text-back : (v : List ℕ) → Vector v → FromText (textOf (treeOf v)) (made v)
 text-back v W =
     let L = tree-leaves v (W .valid) in
     let few = W .few in
-    let e = stands-form (treeOf v) (tree-stands v (W .valid)) in
-    let T : Text (textOf (treeOf v)) (treeOf v) = subst (Text (textOf (treeOf v))) e (leaves-text (length v) (treeOf v) L (W .few)) in
+    let T : Text (textOf (treeOf v)) (treeOf v) = subst (Text (textOf (treeOf v))) (tree-form v (W .valid)) (leaves-text (length v) (treeOf v) L (W .few)) in
     let n : length (labelsOf (textOf (treeOf v))) ≡ length v = leaves-count (length v) T L in
     let fit : labelFault (length (labelsOf (textOf (treeOf v)))) [] (labelsOf (textOf (treeOf v))) ≡ none = rw n (leaves-no-fault (length v) T L) in
     let short : length (textOf (treeOf v)) ≤ 6056 = omega (arith, text-length (length v) (treeOf v) L, text-length-most (length v) few) in

@@ -9,7 +9,7 @@ use Rattle.rules.specs.declared.Answer.{Answer}
 use Rattle.rules.specs.Answer.{done, reads, Made, made, answer, after}
 use Rattle.rules.specs.Calls.{check, fromTable, FromText, unpack}
 use Rattle.demands.specs.Promise.{Call, one, checks, table-to-vector, text-to-vector, unpacks, Lent, Promise}
-use Rattle.demands.specs.Texts.{from-text-unique}
+use Rattle.grammar.specs.Unique.{from-text-unique}
 use Rattle.demands.specs.Answered.{done-made, written, enough}
 use Rattle.demands.specs.DemandTwo.{writes}
 

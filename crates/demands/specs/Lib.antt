@@ -33,13 +33,12 @@
 --
 -- "How tight the statements are": Tight has a refutation of each wrong library that 01 names, and that one library, and only one, keeps the promises.
 --
--- The other files are on the way there: FirstPlace and FirstWrongRow (the searches of the rules find the first place), Texts (every list of
--- bytes makes one thing as a text), Settled and its three companions (what a call makes, from the conditions), Answered (what comes back of it).
+-- The other files are on the way there: FirstPlace and FirstWrongRow (the searches of the rules find the first place), Settled and its three
+-- companions (what a call makes, from the conditions), Answered (what comes back of it).
 pub mod Promise
 pub mod Given
 pub mod FirstPlace
 pub mod FirstWrongRow
-pub mod Texts
 pub mod Settled
 pub mod SettledTable
 pub mod SettledRecord

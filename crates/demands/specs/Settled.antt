@@ -29,7 +29,7 @@ use Rattle.laws.specs.Guards.{no-leaf, many-leaves, some-leaves, wrong-length, 
 use Rattle.laws.specs.FromVector.{above-bound, within-bounds}
 use Rattle.laws.specs.TreeOf.{tree-size}
 use Rattle.record_laws.specs.Inverse.{length-record}
-use Rattle.table.specs.Rows.{table-length}
+use Rattle.table_laws.specs.Rows.{table-length}
 use Rattle.demands.specs.Given.{First, CountWrong, CountRight, Above, WithinBounds, Unfit, VectorRefused, vector-1, vector-4, RelabelRefused, relabel-vector, relabel-2, relabel-11}
 use Rattle.demands.specs.FirstPlace.{Found, found-given, found-none, above-found, unfit-found}
 

@@ -1,5 +1,5 @@
 -- What a table that is read makes is settled by the conditions of its refusals.
--- Main results: settled-from-table, rows-of-long.
+-- Main result: settled-from-table.
 use mathlib.Core.List.{List, [], _∷_}
 use mathlib.Core.Logic.{_≢_, _⊎_, inl, inr}
 use mathlib.Core.Option.{none, some}
@@ -14,20 +14,11 @@ use Rattle.rules.specs.Answer.{numberOf, Made, made, refuses}
 use Rattle.rules.specs.Calls.{refuseFault, refuseCount, refuseLength, fromTable}
 use Rattle.clades.specs.Size.{size-below}
 use Rattle.laws.specs.Guards.{wrong-length, right-length}
+use Rattle.table_laws.specs.Flat.{rowsOf-length}
 use Rattle.rows.specs.Forest.{rows-make-a-tree}
 use Rattle.demands.specs.Given.{CountWrong, CountRight, FirstRow, RowWrong, parent-wrong, child-not-below, child-named, TableRefused, table-1, table-2, table-row}
 use Rattle.demands.specs.FirstWrongRow.{row-found, row-unique}
 use Rattle.demands.specs.Settled.{OfInput, Settled, count-cases, count-given, count-passes, equal-cases, vector-long}
-
--- rows of three numbers each
-pub rows-of-long : (k : ℕ) (xs : List ℕ) → length xs ≡ 3 * k → length (rowsOf xs) ≡ k
-unfolding rowsOf
-rows-of-long zero [] e = refl
-rows-of-long zero (a ∷ xs) e = absurd (omega arith)
-rows-of-long (suc k) [] e = absurd (omega arith)
-rows-of-long (suc k) (a ∷ []) e = absurd (omega arith)
-rows-of-long (suc k) (a ∷ b ∷ []) e = absurd (omega arith)
-rows-of-long (suc k) (a ∷ b ∷ c ∷ xs) e = ap suc (rows-of-long k xs (omega arith))
 
 row-of-input : (n : ℕ) (rs : List Row) (k t : ℕ) → RowWrong n rs k t → OfInput k
 unfolding numberOf
@@ -82,5 +73,5 @@ settled-from-table n xs = record {
       vectorOf (tableTree n (rowsOf xs)),
       count-passes n _ c ∙ right-length (3 * (n - 1)) (length xs) _ l ∙ ap (λ o. refuseFault o last) (f .0),
       vector-long (tableTree n (rowsOf xs))
-          ∙ size-below n (tableTree n (rowsOf xs)) (rows-make-a-tree n (rowsOf xs) (f .0) (rows-of-long (n - 1) xs l) (c .0)),
+          ∙ size-below n (tableTree n (rowsOf xs)) (rows-make-a-tree n (rowsOf xs) (f .0) (rowsOf-length (n - 1) xs l) (c .0)),
     )

@@ -17,7 +17,7 @@ use Rattle.laws.specs.Guards.{refuse-at, pass-at}
 use Rattle.grammar.specs.Labels.{text-label-count}
 use Rattle.demands.specs.Given.{First, CountWrong, CountRight, Unfit, labelNumbers, labelPlace, TextRefused, text-2, text-8, text-1, text-9}
 use Rattle.demands.specs.FirstPlace.{Found, found-given, label-found}
-use Rattle.demands.specs.Texts.{from-text-unique}
+use Rattle.grammar.specs.Unique.{from-text-unique}
 use Rattle.demands.specs.Settled.{OfInput, Settled, count-cases, count-given, count-passes, vector-long}
 
 -- what a text makes whose labels are looked at: "1, 9"

@@ -16,7 +16,7 @@ use Rattle.basics.specs.Bools.{or-no}
 use Rattle.clades.specs.Leaves.{has-left, has-right}
 use Rattle.clades.specs.Size.{size-below}
 use Rattle.grammar.specs.Pairs.{pairCount, childCode, pairsFrom, pairs-length, size-pairs}
-use Rattle.grammar.specs.Nodes.{tied, tied-length}
+use Rattle.table_laws.specs.Tied.{tied, tied-length}
 
 -- a child's number among n leaves: a label is a leaf, pair number k is node n + k
 unfoldable pub childNumber : ℕ → ℕ → ℕ

@@ -7,7 +7,6 @@ pub mod Faults
 pub mod Decimal
 pub mod Written
 pub mod Length
-pub mod Nodes
 pub mod Closed
 pub mod Bounds
 pub mod Unique

@@ -1,7 +1,8 @@
 -- A list of bytes is a text or breaks the grammar, at one place, and not both: what a text makes is one thing.
--- Main results: breaks-unique, text-no-break, from-text-unique.
+-- Main results: breaks-unique, text-no-break, from-text-total, from-text-unique.
 use mathlib.Core.Path.{_≡_, refl, ap, ap₂, sym, subst, _∙_}
 use mathlib.Core.Bool.{Bool, true, false}
+use mathlib.Core.Logic.{_⊎_, inl, inr}
 use mathlib.Core.List.{List, [], _∷_, _++_, append-assoc, append-nil}
 use Prim.Native.Nat.{ℕ, suc, _+_, _-_, _≤_, _<_}
 use native.Mathlib.Omega.{arith}
@@ -13,7 +14,7 @@ use Rattle.rules.specs.Newick.{Text, Begins, BreaksAt, broken, ended}
 use Rattle.rules.specs.Tree.{Tree}
 use Rattle.rules.specs.Answer.{Made, refuses}
 use Rattle.rules.specs.Calls.{FromText, too-long, breaks, reads-as, fromLabels}
-use Rattle.grammar.specs.Complete.{text-unique}
+use Rattle.grammar.specs.Complete.{text-unique, decided}
 
 -- what a text begins with, begins with less
 begins-less : (k : ℕ) (s : List ℕ) → Begins s → Begins (take k s)
@@ -46,7 +47,16 @@ breaks-unique {s} {j} (broken l b fails) (ended b′ fails′) = absurd (fails (
 breaks-unique {s} {j} {k} (ended b fails) (broken l′ b′ fails′) = absurd (fails′ (begins-less (suc k) s b))
 breaks-unique {s} (ended b fails) (ended b′ fails′) = refl
 
--- what a text makes is one thing
+-- every list of bytes makes something
+pub from-text-total : (s : List ℕ) → (m : Made) × FromText s m
+from-text-total s = go (ltb 6056 (length s)) refl (decided s)
+  where
+    go : (b : Bool) → ltb 6056 (length s) ≡ b → ((t : Tree) × Text s t) ⊎ ((k : ℕ) × BreaksAt s k) → (m : Made) × FromText s m
+    go true q h = (refuses 2 6056, too-long (ltb-true 6056 (length s) q))
+    go false q (inl h) = (fromLabels s (h .0), reads-as (h .0) (ltb-false 6056 (length s) q) (h .1))
+    go false q (inr h) = (refuses 8 (h .0), breaks (ltb-false 6056 (length s) q) (h .1))
+
+-- and one thing only
 pub from-text-unique : {s : List ℕ} {m m′ : Made} → FromText s m → FromText s m′ → m ≡ m′
 from-text-unique (too-long h) (too-long h′) = refl
 from-text-unique (too-long h) (breaks l b) = absurd (omega arith)

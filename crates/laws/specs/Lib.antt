@@ -17,7 +17,7 @@
 -- "every rooted binary tree with leaves 0 to n-1 .. is the tree of a vector"
 --     OneToOne.every-tree, only-vector; the vector of a vector's tree: TreeOf.vector-again.
 -- "the child with the smaller least leaf first"
---     Stands.tree-stands; the leaves of the tree: TreeOf.tree-leaves.
+--     TreeOf.tree-turned; the leaves of the tree: TreeOf.tree-leaves.
 -- What a shortened vector means (a later request): Shortened.shortened-valid, shortened-tree, shortened-clades.
 -- What comes back: Answers.reads-unique. When a call refuses: Guards, FromVector, FromTable, FromRecord.
 pub mod Answers
@@ -26,7 +26,6 @@ pub mod FromVector
 pub mod FromTable
 pub mod FromRecord
 pub mod TreeOf
-pub mod Stands
 pub mod FactOne
 pub mod FactTwo
 pub mod OneToOne

@@ -1,17 +1,17 @@
 -- The tree of a vector: its leaves, how it stands, and that the building rule merges its pairs in the order that fact 1 says.
--- Main results: tree-leaves, tree-stands, fact-one, equal-trees-equal-order, vector-again.
+-- Main results: tree-leaves, tree-form, tree-turned, fact-one, equal-trees-equal-order, vector-again.
 use mathlib.Core.List.{List}
-use mathlib.Core.Path.{_≡_, sym, ap, ap₂, _∙_}
+use mathlib.Core.Path.{_≡_, sym, ap, ap₂, _∙_, subst}
 use Prim.Native.Nat.{ℕ}
 use lib.ListN.{length}
 use Rattle.rules.specs.Vector.{Valid, entry}
 use Rattle.rules.specs.Building.{merges}
 use Rattle.rules.specs.Tree.{leaf, size, treeOf, grown, LeavesBelow, SameClades}
 use Rattle.rules.specs.Order.{order, vectorOf, listed, entryAt}
-use Rattle.merging.specs.Insertion.{pairs}
-use Rattle.building.specs.Built.{valid-bounded, merges-are-pairs}
+use Rattle.merging.specs.Insertion.{pairs, valid-bounded}
+use Rattle.building.specs.Built.{merges-are-pairs}
 use Rattle.building.specs.Entry.{entries-of-merges}
-use Rattle.clades.specs.Form.{form}
+use Rattle.clades.specs.Form.{form, Turned, form-turned}
 use Rattle.clades.specs.Size.{size-below}
 use Rattle.growing.specs.Fact1.{pairs-order, pairs-below}
 use Rattle.growing.specs.Grown.{form-grown}
@@ -33,6 +33,10 @@ tree-size v ok = size-below (length v) (treeOf v) (tree-leaves v ok)
 pub tree-form : (v : List ℕ) → Valid v → form (treeOf v) ≡ treeOf v
 unfolding pairs
 tree-form v ok = rw (tree-by-pairs v ok) (form-grown (pairs v) (rising (entry v) (length v) (valid-bounded v ok)))
+
+-- "the child with the smaller least leaf first"
+pub tree-turned : (v : List ℕ) → Valid v → Turned (treeOf v)
+tree-turned v ok = subst Turned (tree-form v ok) (form-turned (treeOf v) (tree-leaves v ok .once))
 
 -- Fact 1 of 01: "The order of merges depends on the tree alone: of the pairs whose two clusters are complete,
 -- the one whose larger name is greatest comes first."

@@ -10,10 +10,10 @@ use lib.Seq.{drop-cons, lt-length-set, getD-set-same, drop-set-lt}
 use borrow.Author.Tests.{lt-ltb, le-ltb}
 use Rattle.rules.specs.Vector.{entry, bound, Valid}
 use Rattle.rules.specs.Building.{Merge}
-use Rattle.merging.specs.Insertion.{pairsOf, pairs, Bounded}
+use Rattle.merging.specs.Insertion.{pairsOf, pairs, pairs-count}
 use Rattle.merging.specs.Greedy.{Under, under-pairs}
 use Rattle.merges.specs.Moved.{ins}
-use Rattle.merges.specs.Held.{held, place, nameAt, nameIn, pairs-next, pairs-long, larger-below, merge-at, same-name, held-next}
+use Rattle.merges.specs.Held.{held, place, nameAt, nameIn, pairs-next, larger-below, merge-at, same-name, held-next}
 
 -- list from lo on and small hold the merges of the first i entries
 pub record Built (v list small : List ℕ) (lo i : ℕ) : Type 0 where
@@ -26,10 +26,6 @@ pub record Built (v list small : List ℕ) (lo i : ℕ) : Type 0 where
   pub above : 1041 ≤ lo + i
   pub below : lo ≤ 1040
   pub listed : map (held small) (take (i - 1) (drop lo list)) ≡ pairsOf (entry v) i
-
-pub valid-bounded : (v : List ℕ) (i : ℕ) → Valid v → i ≤ length v → Bounded (entry v) i
-unfolding Bounded bound
-valid-bounded v i ok h k l = ok .bounded k (omega arith)
 
 pub built-start : {v list small : List ℕ} → Valid v → length v ≤ 1024 → length list ≡ 2080 → length small ≡ 1024 → Built v list small 1040 1
 unfolding pairsOf
@@ -109,7 +105,7 @@ turn {v} {list} {small} {lo} {i} {x} B h ex =
       looks = omega arith;
       finds = λ l.
           let m = merge-at list small lo (i - 1) P (B .listed) (x - i) (omega arith) (omega (arith, length-take (i - 1) (drop lo list), length-drop lo list)) in
-          omega (arith, larger-below i P (under-pairs (entry v) i) (x - i) (omega (arith, pairs-long (entry v) i (B .low))), ap (λ (q : Merge). q .1) m);
+          omega (arith, larger-below i P (under-pairs (entry v) i) (x - i) (omega (arith, pairs-count (entry v) i)), ap (λ (q : Merge). q .1) m);
       few = omega arith;
       stores = omega arith;
     }

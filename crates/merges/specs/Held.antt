@@ -1,6 +1,6 @@
 -- Merges held by a list of their larger names and, for each larger name, its smaller name;
 -- and the merge that an entry puts into the merges of the entries before it.
--- Main definitions: held, place, nameAt. Main results: pairs-next, pairs-long, same-name, held-next.
+-- Main definitions: held, place, nameAt. Main results: pairs-next, same-name, held-next.
 use mathlib.Core.Path.{_≡_, refl, sym, ap, ap₂, _∙_}
 use mathlib.Core.Bool.{Bool, true, false, cond}
 use mathlib.Core.List.{List, [], _∷_, map}
@@ -12,7 +12,7 @@ use lib.ListN.{length, take, drop, getD, set}
 use lib.Seq.{getD-take, getD-drop, getD-set-same, getD-set-other}
 use borrow.Author.Tests.{ltb-false}
 use Rattle.rules.specs.Building.{Merge}
-use Rattle.merging.specs.Insertion.{put, insert, pairsOf, pairs-length}
+use Rattle.merging.specs.Insertion.{put, insert, pairsOf}
 use Rattle.merging.specs.Greedy.{Under}
 use Rattle.merges.specs.Moved.{ins}
 
@@ -45,10 +45,6 @@ pub pairs-next : (v : ℕ → ℕ) (i : ℕ) → 1 ≤ i → pairsOf v (i + 1) �
 unfolding pairsOf
 pairs-next v zero h = absurd (omega arith)
 pairs-next v (suc m) h = rw add-one (insert-ins (suc m) (v (suc m)) (pairsOf v (suc m)))
-
-pub pairs-long : (v : ℕ → ℕ) (i : ℕ) → 1 ≤ i → length (pairsOf v i) ≡ i - 1
-pairs-long v zero h = absurd (omega arith)
-pairs-long v (suc m) h = omega (arith, pairs-length v m)
 
 -- all larger names are below n
 pub larger-below : (n : ℕ) (P : List Merge) → Under n P → (t : ℕ) → t < length P → getD P t (0, 0) .1 < n

@@ -1,5 +1,5 @@
 -- The merges of a vector by insertion: each entry puts its leaf's merge into the merges of the entries before it.
--- Main definitions: put, insert, pairsOf, pairs, Bounded. Main results: pairs-length, pairs-cong, pairs-snoc.
+-- Main definitions: put, insert, pairsOf, pairs, Bounded. Main results: valid-bounded, pairs-length, pairs-count, pairs-cong, pairs-snoc.
 use mathlib.Core.Path.{_≡_, refl, ap, ap₂, _∙_}
 use mathlib.Core.Bool.{Bool, true, false, cond}
 use mathlib.Core.List.{List, [], _∷_, _++_}
@@ -9,12 +9,16 @@ use native.Mathlib.Omega.{arith}
 use lib.Dec.{ltb}
 use lib.ListN.{length, take, drop, getD, length-append, length-take, length-drop, List·getD-append}
 use lib.Seq.{getD-append-seam}
-use Rattle.rules.specs.Vector.{entry}
+use Rattle.rules.specs.Vector.{entry, bound, Valid}
 use Rattle.rules.specs.Building.{Merge}
 
 -- the entries of a vector below n, each within its bound (2 * (0 - 1) is 0)
 unfoldable pub Bounded : (ℕ → ℕ) → ℕ → Type 0
 Bounded v n = (i : ℕ) → i < n → v i ≤ 2 * (i - 1)
+
+pub valid-bounded : (v : List ℕ) → Valid v → Bounded (entry v) (length v)
+unfolding Bounded bound
+valid-bounded v ok = ok .bounded
 
 -- leaf i merges with the cluster of merge number d, right after that merge
 unfoldable pub put : ℕ → ℕ → List Merge → List Merge
@@ -60,6 +64,11 @@ pub pairs-length : (v : ℕ → ℕ) (m : ℕ) → length (pairsOf v (suc m)) �
 unfolding pairsOf
 pairs-length v zero = refl
 pairs-length v (suc m) = omega (arith, insert-length (suc m) (v (suc m)) (pairsOf v (suc m)), pairs-length v m)
+
+pub pairs-count : (v : ℕ → ℕ) (n : ℕ) → length (pairsOf v n) ≡ n - 1
+unfolding pairsOf
+pairs-count v zero = refl
+pairs-count v (suc m) = omega (arith, pairs-length v m)
 
 pub pairs-cong : (u v : ℕ → ℕ) (n : ℕ) → ((i : ℕ) → i < n → u i ≡ v i) → pairsOf u n ≡ pairsOf v n
 unfolding pairsOf

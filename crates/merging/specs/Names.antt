@@ -1,5 +1,6 @@
 -- The names of a list of merges in which each takes a cluster that is there into another.
--- Main results: unnamed-times, named-times, under-named, under-unnamed, pairs-named, rest-there, there-rest.
+-- Main results: smaller-named, larger-named, still-named, not-larger, unnamed-times, named-times, under-named, under-unnamed, named-below,
+-- pairs-named, rest-there, there-rest.
 use mathlib.Core.Path.{_≡_, refl, sym, ap, _∙_}
 use mathlib.Core.Logic.{⊎-elim}
 use mathlib.Core.Bool.{Bool, true, false, true≢false}
@@ -14,6 +15,24 @@ use Rattle.merging.specs.Once.{times, misses, hit-same, hit-other}
 use Rattle.merging.specs.Insertion.{pairsOf}
 use Rattle.merging.specs.Greedy.{Greedy, Under, under-pairs}
 use Rattle.merging.specs.Named.{named, Good, Rising, named-all}
+
+-- the names of the first merge
+pub smaller-named : (m : Merge) (P : List Merge) → Good (m ∷ P) → named (m ∷ P) (m .0) ≡ true
+unfolding Good named
+smaller-named m P G = or-left (named P (m .0)) (eqb (m .1) (m .0)) (G .0)
+
+pub larger-named : (m : Merge) (P : List Merge) → named (m ∷ P) (m .1) ≡ true
+unfolding named
+larger-named m P = or-right (named P (m .1)) (eqb (m .1) (m .1)) (eq-eqb (m .1) (m .1) refl)
+
+-- a name that is left after the first merge was there before it, and is not its larger name
+pub still-named : (m : Merge) (P : List Merge) (x : ℕ) → named P x ≡ true → named (m ∷ P) x ≡ true
+unfolding named
+still-named m P x h = or-left (named P x) (eqb (m .1) x) h
+
+pub not-larger : (m : Merge) (P : List Merge) → Good (m ∷ P) → (x : ℕ) → named P x ≡ true → x ≡ m .1 → ⊥
+unfolding Good
+not-larger m P G x h e = true≢false (sym (rw e at h) ∙ G .1)
 
 pub unnamed-times : (i : ℕ) (P : List Merge) → named P i ≡ false → times i P ≡ 0
 unfolding named times
@@ -43,6 +62,14 @@ pub under-unnamed : (n : ℕ) (P : List Merge) → Under n P → (x : ℕ) → 1
 unfolding named Under
 under-unnamed n [] u x h l = ne-eqb 0 x (omega arith)
 under-unnamed n (m ∷ P) u x h l = let a = u .0 in rw (under-unnamed n P (u .1) x h l, ne-eqb (m .1) x (omega arith))
+
+-- a name is below n where all larger names are
+pub named-below : (n : ℕ) (P : List Merge) → 0 < n → Under n P → (x : ℕ) → named P x ≡ true → x < n
+unfolding named Under
+named-below n [] h u x e = omega (arith, eqb-true 0 x e)
+named-below n (m ∷ P) h u x e =
+    let l = u .0 in
+    ⊎-elim (named-below n P h (u .1) x) (λ q. omega (arith, eqb-true (m .1) x q)) (or-cases (named P x) (eqb (m .1) x) e)
 
 -- the names of a vector's merges are its leaves
 pub pairs-named : (v : ℕ → ℕ) (n : ℕ) → 1 ≤ n → (x : ℕ) → named (pairsOf v n) x ≡ ltb x n

@@ -12,7 +12,7 @@ use lib.Dec.{ltb}
 use borrow.Author.Tests.{lt-ltb}
 use Rattle.rules.specs.Newick.{digits, pairText, nodeText, textOf}
 use Rattle.rules.specs.Tree.{Tree, leaf, node, least}
-use Rattle.grammar.specs.Nodes.{treeAt, tree-leaf, tree-pair}
+use Rattle.table_laws.specs.Tied.{treeAt, tree-leaf, tree-pair}
 use Rattle.grammar.specs.Length.{pair-length}
 use Rattle.newick.specs.Output.{Wrote, Ordered}
 use Rattle.newick.proofs.Took.{sets-append}

@@ -6,7 +6,7 @@ use Prim.Native.Nat.{ℕ, _+_, _-_, _≤_, _<_}
 use lib.ListN.{length, getD}
 use lib.Seq.{sets}
 use Rattle.rules.specs.Tree.{Tree, least}
-use Rattle.grammar.specs.Nodes.{treeAt}
+use Rattle.table_laws.specs.Tied.{treeAt}
 
 -- the bytes stand from a place on, and what follows begins at r
 pub record Wrote (bytes : List ℕ) (at : ℕ) (before after : List ℕ) (r : ℕ) : Type 0 where

@@ -13,7 +13,7 @@ use Rattle.rules.specs.Table.{Row, tableFault, tableTree}
 use Rattle.grammar.specs.Labels.{value, text-label-count}
 use Rattle.grammar.specs.Faults.{no-fault-leaves}
 use Rattle.grammar.specs.Pairs.{pairCount, pairsFrom, pairs-length, size-pairs}
-use Rattle.grammar.specs.Nodes.{tied}
+use Rattle.table_laws.specs.Tied.{tied}
 use Rattle.grammar.specs.Closed.{childNumber, closedRows, closed-length, closed-accepted, closed-tree, leaves-small}
 use Rattle.grammar.specs.Bounds.{AllBelow, SecondsBelow, text-small, pairs-small}
 use Rattle.newick.specs.declared.Next.{Next}

@@ -6,7 +6,7 @@ ghost use mathlib.Core.List.{List, [], _++_, map};
 ghost use lib.ListN.{length, getD, set, take, drop};
 ghost use Rattle.rules.specs.Newick.{isDigit, digits, nodeText, textOf, labelFault};
 ghost use Rattle.grammar.specs.Reading.{nodeRead, pairRead};
-ghost use Rattle.grammar.specs.Nodes.{treeAt, wholeTree};
+ghost use Rattle.table_laws.specs.Tied.{treeAt, wholeTree};
 ghost use Rattle.grammar.specs.Closed.{childNumber};
 ghost use Rattle.newick.specs.Output.{Wrote, Ordered};
 ghost use Rattle.newick.specs.Marks.{Unused, faulty, faultPlace, unplaced};

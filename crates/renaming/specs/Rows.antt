@@ -7,20 +7,18 @@ use Prim.Native.Nat.{ℕ, zero, suc, _+_, _-_, _≤_, _<_}
 use native.Mathlib.Omega.{arith}
 use lib.ListN.{length, getD, take}
 use lib.Seq.{take-at}
-use Rattle.rules.specs.Vector.{Valid, entry}
+use Rattle.rules.specs.Vector.{entry, Valid}
 use Rattle.rules.specs.Tree.{Tree, leaf, treeOf, grown, LeavesBelow}
 use Rattle.rules.specs.Table.{Row, rowsFrom, tableFault, tableTree}
 use Rattle.rules.specs.Shuffle.{renamed, permutationFault, newOf}
-use Rattle.merging.specs.Insertion.{pairs}
-use Rattle.merging.specs.Named.{rising}
-use Rattle.building.specs.Built.{valid-bounded}
-use Rattle.laws.specs.TreeOf.{tree-by-pairs, tree-leaves}
-use Rattle.shuffle_laws.specs.Rows.{Turned, turned-grown, renamedRows, renamed-rows}
+use Rattle.merging.specs.Insertion.{pairs, pairs-count}
+use Rattle.laws.specs.TreeOf.{tree-by-pairs, tree-leaves, tree-turned}
+use Rattle.clades.specs.Form.{Turned}
+use Rattle.shuffle_laws.specs.Rows.{renamedRows, renamed-rows}
 use Rattle.shuffle_laws.specs.Taken.{new-no-fault}
-use Rattle.table.specs.Rows.{first, second, rows-length, parent-at}
-use Rattle.table.specs.Numbered.{pairs-count}
-use Rattle.table.specs.Accepted.{pairs-accepted}
-use Rattle.table.specs.Grown.{pairs-tree}
+use Rattle.table_laws.specs.Rows.{first, second, rows-length, parent-at}
+use Rattle.table_laws.specs.Accepted.{pairs-accepted}
+use Rattle.table_laws.specs.Grown.{pairs-tree}
 use Rattle.reading.specs.Children.{Children}
 use Rattle.shuffle.specs.Held.{heldRows, heldTree, Tabled, held-is, held-renamed, getD-held, length-held}
 use Rattle.shuffle.specs.Renames.{renamedTo, renamed-at}
@@ -37,8 +35,8 @@ pub record RowsOf (v left right : List ℕ) : Type 0 where
   pub held : heldRows (length v) left right ≡ vectorRows v
 
 rows-count : (v : List ℕ) → Valid v → length (vectorRows v) ≡ length v - 1
-unfolding vectorRows
-rows-count v ok = rows-length (length v) (λ c. c) (pairs v) ∙ pairs-count v ok
+unfolding vectorRows pairs
+rows-count v ok = rows-length (length v) (λ c. c) (pairs v) ∙ pairs-count (entry v) (length v)
 
 -- an element of a list that begins with the children of rows
 child-at : (f : Row → ℕ) (rs : List Row) (rest : List ℕ) (t : ℕ) → t < length rs → getD (map f rs ++ rest) t 0 ≡ f (getD rs t (0, 0, 0))
@@ -49,7 +47,7 @@ child-at f (r ∷ rs) rest (suc t) h = child-at f rs rest t (omega arith)
 -- what the code that writes the rows of a vector leaves
 pub rows-of : (v left right rest rest′ : List ℕ) → Valid v → length left ≡ 1024 → length right ≡ 1024 → length v ≤ 1024
     → left ≡ map first (rowsFrom (length v) (λ c. c) (pairs v)) ++ rest → right ≡ map second (rowsFrom (length v) (λ c. c) (pairs v)) ++ rest′ → RowsOf v left right
-unfolding vectorRows
+unfolding vectorRows pairs
 rows-of v left right rest rest′ ok a b u p q = record {
   valid = ok;
   lefts = omega arith;
@@ -61,7 +59,7 @@ rows-of v left right rest rest′ ok a b u p q = record {
     each t h =
         let c = rows-count v ok in
         let l : t < length (vectorRows v) = omega arith in
-        let k = pairs-count v ok in
+        let k = pairs-count (entry v) (length v) in
         λ i. (
           sym (ap (λ (xs : List ℕ). getD xs t 0) p ∙ child-at first (vectorRows v) rest t l) i,
           sym (ap (λ (xs : List ℕ). getD xs t 0) q ∙ child-at second (vectorRows v) rest′ t l) i,
@@ -79,12 +77,10 @@ rows-fine {v} R = ap (tableFault (length v)) (R .held) ∙ pairs-accepted v (R .
 
 -- so that Queue Shuffle can go through them
 pub rows-tabled : {v left right : List ℕ} → RowsOf v left right → Tabled (length v) left right
-unfolding pairs
 rows-tabled {v} R = record {
   accepted = rows-fine R;
   leaves = subst (LeavesBelow (length v)) (sym (rows-tree R)) (tree-leaves v (R .valid));
-  turned = subst Turned (sym (rows-tree R ∙ tree-by-pairs v (R .valid)))
-      (turned-grown (pairs v) (rising (entry v) (length v) (valid-bounded v (R .valid))) 0);
+  turned = subst Turned (sym (rows-tree R)) (tree-turned v (R .valid));
 }
 
 -- the rows with renamed leaves

@@ -11,7 +11,9 @@ use Rattle.rules.specs.Tree.{Tree, leaf, node, Clusters, LeavesBelow}
 use Rattle.rules.specs.Table.{Row, tableFault, nodesOf, tableTree}
 use Rattle.clades.specs.Size.{size-below}
 use Rattle.shuffle_laws.specs.Taken.{size-inner}
-use Rattle.shuffle_laws.specs.Rows.{Turned, leaf-of, node-of, stands-row, accepted-stands, renamedChild, renamedRow, renamedRows, length-renamed, getD-renamed, row-renamed}
+use Rattle.clades.specs.Form.{Turned}
+use Rattle.table_laws.specs.Nodes.{leaf-of, node-of, stands-row, accepted-stands}
+use Rattle.shuffle_laws.specs.Rows.{renamedChild, renamedRow, renamedRows, length-renamed, getD-renamed, row-renamed}
 
 -- k rows from row t on
 unfoldable pub heldFrom : ℕ → List ℕ → List ℕ → ℕ → ℕ → List Row
@@ -73,14 +75,14 @@ pub held-shape : (n : ℕ) (left right : List ℕ) → tableFault n (heldRows n 
 held-shape n left right e = record {
   leaves = leaf-of n (heldRows n left right) e;
   pairs = λ j h. rw (getD-held n left right j (0, 0, 0) h) at (node-of n (heldRows n left right) e j (0, 0, 0) (omega (arith, length-held n left right)));
-  first = λ j h. omega (arith, row j h .0);
-  second = λ j h. omega (arith, row j h .1);
+  first = λ j h. row j h .0;
+  second = λ j h. row j h .1;
 }
   where
-    row : (j : ℕ) → j < n - 1 → (getD left j 0 < n + 0 + j) × (getD right j 0 < n + 0 + j)
+    row : (j : ℕ) → j < n - 1 → (getD left j 0 < n + j) × (getD right j 0 < n + j)
     row j h =
         rw (getD-held n left right j (0, 0, 0) h) at
-        (stands-row n 0 (heldRows n left right) j (0, 0, 0) (accepted-stands n (heldRows n left right) e) (omega (arith, length-held n left right)))
+        (stands-row n (heldRows n left right) j (0, 0, 0) (accepted-stands n (heldRows n left right) e) (omega (arith, length-held n left right)))
 
 -- rows that are held row by row are the rows held
 pub held-is : (n : ℕ) (left right : List ℕ) (rs : List Row) → length rs ≡ n - 1

@@ -14,7 +14,7 @@ use Rattle.basics.specs.Cases.{by-lt, by-eq}
 use Rattle.clades.specs.Size.{size-below}
 use Rattle.shuffle_laws.specs.Taken.{inner, innerIn, weigh, weigh-append, size-inner}
 use Rattle.shuffle_laws.specs.Handed.{outcome, outcome-take, outcome-leaf, outcome-node}
-use Rattle.shuffle_laws.specs.Rows.{Turned}
+use Rattle.clades.specs.Form.{Turned}
 use Rattle.shuffle.specs.Held.{Shape}
 
 -- all that joined the queue, in order, with their labels

@@ -14,12 +14,11 @@ use Rattle.rules.specs.Vector.{entry, Valid}
 use Rattle.rules.specs.Building.{Merge}
 use Rattle.rules.specs.Table.{Row, rowsFrom}
 use Rattle.vector.specs.Front.{mix, mix-start, mix-step}
-use Rattle.merging.specs.Insertion.{pairsOf, pairs}
+use Rattle.merging.specs.Insertion.{pairsOf, pairs, valid-bounded}
 use Rattle.merging.specs.Greedy.{under-pairs}
 use Rattle.merging.specs.Named.{rising}
-use Rattle.merges.specs.Held.{held, merge-at, pairs-long}
-use Rattle.merges.specs.Built.{valid-bounded}
-use Rattle.table.specs.Rows.{first, second, Inside, inside, inside-drop, inside-at, rows-length, rows-cong}
+use Rattle.merges.specs.Held.{held, merge-at}
+use Rattle.table_laws.specs.Rows.{first, second, Inside, inside, inside-drop, inside-at, rows-length, rows-cong}
 
 -- the merges that the two lists hold
 unfoldable pub heldMerges : List ℕ → List ℕ → ℕ → ℕ → List Merge
@@ -171,7 +170,7 @@ leaves-next {n} {number₀} {number} {c} L h =
 pub pairs-inside : (v : List ℕ) → Valid v → Inside (length v) (pairs v)
 unfolding pairs
 pairs-inside v ok =
-    inside (length v) (pairsOf (entry v) (length v)) (under-pairs (entry v) (length v)) (rising (entry v) (length v) (valid-bounded v (length v) ok (omega arith)))
+    inside (length v) (pairsOf (entry v) (length v)) (under-pairs (entry v) (length v)) (rising (entry v) (length v) (valid-bounded v ok))
 
 pub held-of : {v list small : List ℕ} {start : ℕ} {number : List ℕ} → Valid v → length v ≤ 1024 → start + (length v - 1) ≤ 2080
     → map (held small) (take (length v - 1) (drop start list)) ≡ pairs v → length list ≡ 2080 → length small ≡ 1024 → length number ≡ 1024
@@ -190,7 +189,3 @@ held-of {v} ok few room e ll ls ln itself = record {
 pub rows-of-pairs : (v list small : List ℕ) (start : ℕ) → map (held small) (take (length v - 1) (drop start list)) ≡ pairs v → heldRows list small start (length v) ≡ rowsFrom (length v) (λ c. c) (pairs v)
 unfolding heldRows heldMerges
 rows-of-pairs v list small start e = rw e
-
-pub pairs-count : (v : List ℕ) → Valid v → length (pairs v) ≡ length v - 1
-unfolding pairs
-pairs-count v ok = pairs-long (entry v) (length v) (ok .some-leaf)

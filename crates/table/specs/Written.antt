@@ -8,7 +8,7 @@ use lib.ListN.{length, drop, getD, set, length-set}
 use lib.Seq.{take-all}
 use Rattle.rules.specs.Table.{Row, flat}
 use Rattle.vector.specs.Front.{mix, mix-start, mix-step}
-use Rattle.table.specs.Rows.{flat-length, flat-first, flat-second, flat-parent}
+use Rattle.table_laws.specs.Flat.{flat-length, flat-first, flat-second, flat-parent}
 use Rattle.table.specs.Numbered.{heldRows, rows-long, Held, Numbered, numbered-start, numbered-next, row-at}
 
 -- the first t rows are written

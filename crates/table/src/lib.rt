@@ -5,7 +5,7 @@ ghost use lib.ListN.{length, drop, getD};
 ghost use Rattle.rules.specs.Vector.{Valid};
 ghost use Rattle.rules.specs.Table.{flat, rowsFrom};
 ghost use Rattle.merging.specs.Insertion.{pairs};
-ghost use Rattle.table.specs.Rows.{first, second};
+ghost use Rattle.table_laws.specs.Rows.{first, second};
 ghost use Rattle.table.specs.Numbered.{heldRows, Held};
 use vector::wide;
 

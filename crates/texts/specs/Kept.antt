@@ -8,11 +8,10 @@ use lib.ListN.{length, getD, take, drop, length-map, length-take, List·getD-app
 use Rattle.rules.specs.Tree.{Tree}
 use Rattle.rules.specs.Table.{Row, tableTree}
 use Rattle.rules.specs.Order.{vectorOf}
-use Rattle.table.specs.Rows.{tied-at}
+use Rattle.table_laws.specs.Tied.{tied-at}
 use Rattle.reading.specs.Children.{Children}
 use Rattle.newick.specs.Numbered.{firstNumber, secondNumber}
 use Rattle.newick.specs.Recorded.{TableOf, recordedRows}
-use Rattle.texts.specs.Standing.{same-tied}
 
 module _ (n : ℕ) (pairs left right more more′ : List ℕ) (t : Tree) (T : TableOf n t (recordedRows n pairs)) (room : n - 1 ≤ length pairs)
     (l : left ≡ map (firstNumber n) (take (n - 1) pairs) ++ more) (r : right ≡ map (secondNumber n) (take (n - 1) pairs) ++ more′) where
@@ -24,7 +23,7 @@ module _ (n : ℕ) (pairs left right more more′ : List ℕ) (t : Tree) (T : Ta
       let b : j < length seconds = omega (arith, length-map (take (n - 1) pairs) (secondNumber n), length-take (n - 1) pairs) in
       let x : getD left j 0 ≡ getD firsts j 0 = ap (λ (xs : List ℕ). getD xs j 0) l ∙ List·getD-append firsts more 0 j a in
       let y : getD right j 0 ≡ getD seconds j 0 = ap (λ (xs : List ℕ). getD xs j 0) r ∙ List·getD-append seconds more′ 0 j b in
-      ap (λ (rs : List Row). getD rs j (0, 0, 0)) (same-tied n firsts seconds) ∙ tied-at n firsts seconds j a b
+      tied-at n firsts seconds j a b
       ∙ ap₂ (λ (u w : ℕ). (u, w, n + j)) (sym x) (sym y)
 
   pub kept-children : Children n left right (recordedRows n pairs)

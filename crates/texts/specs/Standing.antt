@@ -15,18 +15,16 @@ use Rattle.rules.specs.Building.{Merge}
 use Rattle.rules.specs.Tree.{Tree, leaf, node, least, Clusters, treeOf}
 use Rattle.rules.specs.Newick.{textOf}
 use Rattle.rules.specs.Table.{Row, rowsFrom, nodesOf, tableTree}
-use Rattle.merging.specs.Insertion.{pairsOf, pairs}
+use Rattle.merging.specs.Insertion.{pairsOf, pairs, pairs-count, valid-bounded}
 use Rattle.merging.specs.Greedy.{Under, under-pairs}
 use Rattle.merging.specs.Named.{named, Good, good, Rising, rising}
-use Rattle.building.specs.Built.{valid-bounded}
 use Rattle.laws.specs.TreeOf.{tree-by-pairs, tree-leaves}
 use Rattle.grammar.specs.Length.{textLength, text-length}
-use Rattle.grammar.specs.Nodes.{tied, treeAt, wholeTree, tree-whole}
-use Rattle.table.specs.Rows.{first, second, rows-length, tied-rows}
-use Rattle.table.specs.Rows as rows
-use Rattle.table.specs.Numbered.{pairs-count}
-use Rattle.table.specs.Accepted.{renumber, smaller-named, larger-named, still-named, named-below, ChildrenBelow, pairs-below}
-use Rattle.table.specs.Grown.{pairs-tree}
+use Rattle.merging.specs.Names.{smaller-named, larger-named, still-named, named-below}
+use Rattle.table_laws.specs.Tied.{tied, treeAt, wholeTree, tree-whole}
+use Rattle.table_laws.specs.Rows.{first, second, rows-length, tied-rows, renumber}
+use Rattle.table_laws.specs.Accepted.{pairs-below}
+use Rattle.table_laws.specs.Grown.{pairs-tree}
 use Rattle.newick.specs.Output.{Ordered, Wrote}
 
 -- the nodes after a row
@@ -83,12 +81,6 @@ least-first (m ∷ P) p number C G R N zero h =
 least-first (m ∷ P) p number C G R N (suc j) h =
     least-first P (p + 1) (renumber number (m .0) p) (above C p (number (m .0)) (number (m .1))) (G .2) (R .1) (named-next m P p number C G (R .0) N) j (omega arith)
 
-pub same-tied : (p : ℕ) (L R : List ℕ) → tied p L R ≡ rows.tied p L R
-unfolding tied rows.tied
-same-tied p [] R = refl
-same-tied p (l ∷ L) [] = refl
-same-tied p (l ∷ L) (r ∷ R) = ap (λ (rs : List Row). (l, r, p) ∷ rs) (same-tied (p + 1) L R)
-
 -- an element of a list that is kept in front
 pub front-at : {A : Type 0} (f : A → ℕ) (d : A) (xs : List A) (rest : List ℕ) (i : ℕ) → i < length xs → getD (map f xs ++ rest) i 0 ≡ f (getD xs i d)
 front-at f d [] rest i h = absurd (omega arith)
@@ -102,7 +94,8 @@ vectorRows v = rowsFrom (length v) (λ c. c) (pairs v)
 module _ (v left right more more′ : List ℕ) (ok : Valid v) (few : length v ≤ 1024)
     (l : left ≡ map first (vectorRows v) ++ more) (r : right ≡ map second (vectorRows v) ++ more′) where
   count : length (vectorRows v) ≡ length v - 1
-  count = rows-length (length v) (λ c. c) (pairs v) ∙ pairs-count v ok
+  unfolding pairs
+  count = rows-length (length v) (λ c. c) (pairs v) ∙ pairs-count (entry v) (length v)
 
   lefts : take (length v - 1) left ≡ map first (vectorRows v)
   lefts = ap (take (length v - 1)) l ∙ take-at (map first (vectorRows v)) more (length v - 1) (length-map (vectorRows v) first ∙ count)
@@ -111,7 +104,7 @@ module _ (v left right more more′ : List ℕ) (ok : Valid v) (few : length v �
   rights = ap (take (length v - 1)) r ∙ take-at (map second (vectorRows v)) more′ (length v - 1) (length-map (vectorRows v) second ∙ count)
 
   table : tied (length v) (take (length v - 1) left) (take (length v - 1) right) ≡ vectorRows v
-  table = ap₂ (tied (length v)) lefts rights ∙ same-tied (length v) _ _ ∙ tied-rows (length v) (λ c. c) (pairs v)
+  table = ap₂ (tied (length v)) lefts rights ∙ tied-rows (length v) (λ c. c) (pairs v)
 
   left-at : (j : ℕ) → j < length v - 1 → getD left j 0 ≡ getD (vectorRows v) j (0, 0, 0) .0
   left-at j h = ap (λ (xs : List ℕ). getD xs j 0) l ∙ front-at first (0, 0, 0) (vectorRows v) more j (omega (arith, count))
@@ -126,7 +119,7 @@ module _ (v left right more more′ : List ℕ) (ok : Valid v) (few : length v �
       let n = length v in
       let P = pairsOf (entry v) n in
       let N : Named P n (λ c. c) leaf = record { below = named-below n P (ok .some-leaf) (under-pairs (entry v) n); name = λ x e. refl } in
-      least-first P n (λ c. c) leaf (good (entry v) n (valid-bounded v ok)) (rising (entry v) n (valid-bounded v ok)) N j (omega (arith, pairs-count v ok))
+      least-first P n (λ c. c) leaf (good (entry v) n (valid-bounded v ok)) (rising (entry v) n (valid-bounded v ok)) N j (omega (arith, pairs-count (entry v) (length v)))
 
   there-left : length v - 1 ≤ length left
   there-left = omega (arith, ap length l, length-append (map first (vectorRows v)) more, length-map (vectorRows v) first, count)
@@ -135,7 +128,7 @@ module _ (v left right more more′ : List ℕ) (ok : Valid v) (few : length v �
   there-right = omega (arith, ap length r, length-append (map second (vectorRows v)) more′, length-map (vectorRows v) second, count)
 
   pub rows-ordered : Ordered (length v) left right
-  unfolding treeAt ChildrenBelow
+  unfolding treeAt
   rows-ordered = record {
     some-leaf = ok .some-leaf;
     few = few;

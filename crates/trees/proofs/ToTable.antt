@@ -10,7 +10,7 @@ use Rattle.rules.specs.Answer.{made}
 use Rattle.rules.specs.Calls.{toTable}
 use Rattle.merging.specs.Insertion.{pairs}
 use Rattle.building.specs.Built.{merges-are-pairs, merges-length}
-use Rattle.table.specs.Rows.{table-length}
+use Rattle.table_laws.specs.Rows.{table-length}
 use Rattle.trees.proofs.Checked.{Sound, sound-made}
 
 pub table-made : (v : List ℕ) → Sound v → toTable v ≡ made (flat (rowsFrom (length v) (λ c. c) (pairs v)))

@@ -1,7 +1,7 @@
 use native.Mathlib.Omega.{arith}
 use borrow.Author.Needs.{needs}
 use Rattle.newick.proofs.Writing.{text-room, wrote-end}
-use Rattle.grammar.specs.Nodes.{treeAt, wholeTree}
+use Rattle.table_laws.specs.Tied.{treeAt, wholeTree}
 use Prim.Native.Nat.{ℕ, _+_, _-_}
 use mathlib.Core.Path.{_≡_, refl, _∙_, sym, ap}
 use lib.ListN.{length, getD, length-set}

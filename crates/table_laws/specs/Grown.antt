@@ -12,13 +12,12 @@ use Rattle.rules.specs.Vector.{entry, Valid}
 use Rattle.rules.specs.Building.{Merge}
 use Rattle.rules.specs.Tree.{leaf, node, Clusters, joined, grown}
 use Rattle.rules.specs.Table.{rowsFrom, nodesOf, tableTree}
-use Rattle.merging.specs.Insertion.{pairsOf, pairs}
+use Rattle.merging.specs.Insertion.{valid-bounded, pairsOf, pairs, pairs-count}
 use Rattle.merging.specs.Greedy.{Under, under-pairs}
 use Rattle.merging.specs.Named.{named, Good, good}
-use Rattle.merges.specs.Held.{pairs-long}
-use Rattle.merges.specs.Built.{valid-bounded}
-use Rattle.table.specs.Rows.{rows-length}
-use Rattle.table.specs.Accepted.{renumber, smaller-named, larger-named, still-named, named-below}
+use Rattle.merging.specs.Names.{smaller-named, larger-named, still-named, named-below}
+use Rattle.table_laws.specs.Nodes.{noded}
+use Rattle.table_laws.specs.Rows.{renumber, renumber-below, rows-length}
 
 -- Each name that is left has a node below p, and the node's tree is the cluster's; where no merge is left, 0 has the last node.
 pub record Same (P : List Merge) (p : ℕ) (number : ℕ → ℕ) (C D : Clusters) : Type 0 where
@@ -32,14 +31,10 @@ unfolding Good named
 last-merge m [] G e = eqb-true 0 (m .0) (G .0)
 last-merge m (q ∷ P) G e = absurd (omega arith)
 
--- the nodes after a row
-abbrev above : Clusters → ℕ → ℕ → ℕ → Clusters
-above C p l r = λ k. cond (eqb k p) (node (C l) (C r)) (C k)
-
-same-next : (m : Merge) (P : List Merge) (p : ℕ) (number : ℕ → ℕ) (C D : Clusters) → Good (m ∷ P) → Same (m ∷ P) p number C D → Same P (p + 1) (renumber number (m .0) p) (above C p (number (m .0)) (number (m .1))) (joined m D)
+same-next : (m : Merge) (P : List Merge) (p : ℕ) (number : ℕ → ℕ) (C D : Clusters) → Good (m ∷ P) → Same (m ∷ P) p number C D → Same P (p + 1) (renumber number (m .0) p) (noded C (number (m .0), number (m .1), p)) (joined m D)
 unfolding joined
 same-next m P p number C D G S = record {
-  below = λ x h. below′ x h (eqb x (m .0)) refl;
+  below = λ x h. renumber-below number (m .0) p x (old x h);
   tree = λ x h. tree′ x h (eqb x (m .0)) refl;
   last = λ e. let z : p + 1 - 1 ≡ p = omega arith in rw (eq-eqb 0 (m .0) (last-merge m P G e), z);
 }
@@ -47,11 +42,7 @@ same-next m P p number C D G S = record {
     old : (x : ℕ) → named P x ≡ true → number x < p
     old x h = S .below x (still-named m P x h)
 
-    below′ : (x : ℕ) → named P x ≡ true → (b : Bool) → eqb x (m .0) ≡ b → cond b p (number x) < p + 1
-    below′ x h true q = omega arith
-    below′ x h false q = omega (arith, old x h)
-
-    tree′ : (x : ℕ) → named P x ≡ true → (b : Bool) → eqb x (m .0) ≡ b → above C p (number (m .0)) (number (m .1)) (cond b p (number x)) ≡ cond b (node (D (m .0)) (D (m .1))) (D x)
+    tree′ : (x : ℕ) → named P x ≡ true → (b : Bool) → eqb x (m .0) ≡ b → noded C (number (m .0), number (m .1), p) (cond b p (number x)) ≡ cond b (node (D (m .0)) (D (m .1))) (D x)
     tree′ x h true q = rw (eq-eqb p p refl) (ap₂ node (S .tree (m .0) (smaller-named m P G)) (S .tree (m .1) (larger-named m P)))
     tree′ x h false q = rw (ne-eqb (number x) p (λ e. omega (arith, old x h))) (S .tree x (still-named m P x h))
 
@@ -64,7 +55,7 @@ rows-grow [] p number C D G S =
 rows-grow (m ∷ P) p number C D G S =
     let z : p + suc (length P) - 1 ≡ p + 1 + length P - 1 = omega arith in
     rw z
-    (rows-grow P (p + 1) (renumber number (m .0) p) (above C p (number (m .0)) (number (m .1))) (joined m D) (G .2) (same-next m P p number C D G S))
+    (rows-grow P (p + 1) (renumber number (m .0) p) (noded C (number (m .0), number (m .1), p)) (joined m D) (G .2) (same-next m P p number C D G S))
 
 pub table-tree : (n : ℕ) (P : List Merge) → suc (length P) ≡ n → Under n P → Good P → tableTree n (rowsFrom n (λ c. c) P) ≡ grown P leaf 0
 unfolding tableTree
@@ -81,5 +72,5 @@ pub pairs-tree : (v : List ℕ) → Valid v → tableTree (length v) (rowsFrom (
 unfolding pairs
 pairs-tree v ok =
     let some = ok .some-leaf in
-    table-tree (length v) (pairsOf (entry v) (length v)) (omega (arith, pairs-long (entry v) (length v) some)) (under-pairs (entry v) (length v))
-    (good (entry v) (length v) (valid-bounded v (length v) ok (omega arith)))
+    table-tree (length v) (pairsOf (entry v) (length v)) (omega (arith, pairs-count (entry v) (length v))) (under-pairs (entry v) (length v))
+    (good (entry v) (length v) (valid-bounded v ok))

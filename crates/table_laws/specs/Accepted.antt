@@ -1,5 +1,5 @@
 -- A table that is written is accepted when it is read.
--- Main definitions: Fresh, ChildrenBelow. Main results: table-accepted, pairs-accepted, accepted-below, pairs-below.
+-- Main definition: Fresh. Main results: rows-accepted, table-accepted, pairs-accepted, pairs-below.
 use mathlib.Core.Path.{_≡_, refl, sym, _∙_}
 use mathlib.Core.Logic.{⊎-elim}
 use mathlib.Core.Bool.{Bool, true, false, not, _&&_, _||_, cond, true≢false}
@@ -14,12 +14,12 @@ use Rattle.rules.specs.Vector.{entry, Valid}
 use Rattle.rules.specs.Building.{Merge}
 use Rattle.rules.specs.Table.{Row, Fault, rowsFrom, rowFault, tableFault, childrenBelow, namedTwice}
 use Rattle.basics.specs.Bools.{and-left, and-right, or-cases, or-left, or-right}
-use Rattle.merging.specs.Insertion.{pairsOf, pairs}
+use Rattle.merging.specs.Insertion.{valid-bounded, pairsOf, pairs, pairs-count}
 use Rattle.merging.specs.Greedy.{Under, under-pairs}
 use Rattle.merging.specs.Named.{named, Good, good}
-use Rattle.merges.specs.Built.{valid-bounded}
-use Rattle.table.specs.Rows.{rows-length}
-use Rattle.table.specs.Numbered.{pairs-count}
+use Rattle.merging.specs.Names.{smaller-named, larger-named, still-named, not-larger, named-below}
+use Rattle.table_laws.specs.Nodes.{accepted-stands, stands-row}
+use Rattle.table_laws.specs.Rows.{renumber, renumber-same, renumber-other, renumber-below, rows-length}
 
 -- The names that are left have nodes of their own: below p, and named by no row so far.
 pub record Fresh (P : List Merge) (p : ℕ) (number : ℕ → ℕ) (used : ℕ → Bool) : Type 0 where
@@ -27,34 +27,6 @@ pub record Fresh (P : List Merge) (p : ℕ) (number : ℕ → ℕ) (used : ℕ �
   pub unused : (x : ℕ) → named P x ≡ true → used (number x) ≡ false
   pub apart : (x y : ℕ) → named P x ≡ true → named P y ≡ true → number x ≡ number y → x ≡ y
   pub above : (k : ℕ) → p ≤ k → used k ≡ false
-
--- the names of the first merge
-pub smaller-named : (m : Merge) (P : List Merge) → Good (m ∷ P) → named (m ∷ P) (m .0) ≡ true
-unfolding Good named
-smaller-named m P G = or-left (named P (m .0)) (eqb (m .1) (m .0)) (G .0)
-
-pub larger-named : (m : Merge) (P : List Merge) → named (m ∷ P) (m .1) ≡ true
-unfolding named
-larger-named m P = or-right (named P (m .1)) (eqb (m .1) (m .1)) (eq-eqb (m .1) (m .1) refl)
-
--- a name that is left after the first merge was there before it, and is not its larger name
-pub still-named : (m : Merge) (P : List Merge) (x : ℕ) → named P x ≡ true → named (m ∷ P) x ≡ true
-unfolding named
-still-named m P x h = or-left (named P x) (eqb (m .1) x) h
-
-pub not-larger : (m : Merge) (P : List Merge) → Good (m ∷ P) → (x : ℕ) → named P x ≡ true → x ≡ m .1 → ⊥
-unfolding Good
-not-larger m P G x h e = true≢false (sym (rw e at h) ∙ G .1)
-
--- the numbers after the first merge
-abbrev pub renumber : (ℕ → ℕ) → ℕ → ℕ → ℕ → ℕ
-renumber number a p c = cond (eqb c a) p (number c)
-
-pub renumber-same : (number : ℕ → ℕ) (a p x : ℕ) → x ≡ a → renumber number a p x ≡ p
-renumber-same number a p x e = rw (eq-eqb x a e)
-
-pub renumber-other : (number : ℕ → ℕ) (a p x : ℕ) → (x ≡ a → ⊥) → renumber number a p x ≡ number x
-renumber-other number a p x e = rw (ne-eqb x a e)
 
 module _ (m : Merge) (P : List Merge) (p : ℕ) (number : ℕ → ℕ) (used : ℕ → Bool) (G : Good (m ∷ P)) (F : Fresh (m ∷ P) p number used) where
   a-below : number (m .0) < p
@@ -72,7 +44,7 @@ module _ (m : Merge) (P : List Merge) (p : ℕ) (number : ℕ → ℕ) (used : �
 
   fresh-next : Fresh P (p + 1) (renumber number (m .0) p) (λ c. used c || eqb c (number (m .0)) || eqb c (number (m .1)))
   fresh-next = record {
-    below = λ x h. below′ x h (eqb x (m .0)) refl;
+    below = λ x h. renumber-below number (m .0) p x (old x h);
     unused = λ x h. unused′ x h (eqb x (m .0)) refl;
     apart = λ x y h g e. apart′ x y h g e (eqb x (m .0)) refl (eqb y (m .0)) refl;
     above = λ k h. unused-next k (F .above k (omega arith)) (λ e. omega (arith, a-below)) (λ e. omega (arith, b-below));
@@ -80,10 +52,6 @@ module _ (m : Merge) (P : List Merge) (p : ℕ) (number : ℕ → ℕ) (used : �
     where
       old : (x : ℕ) → named P x ≡ true → number x < p
       old x h = F .below x (still-named m P x h)
-
-      below′ : (x : ℕ) → named P x ≡ true → (b : Bool) → eqb x (m .0) ≡ b → cond b p (number x) < p + 1
-      below′ x h true q = omega arith
-      below′ x h false q = omega (arith, old x h)
 
       unused′ : (x : ℕ) → named P x ≡ true → (b : Bool) → eqb x (m .0) ≡ b → used (cond b p (number x)) || eqb (cond b p (number x)) (number (m .0)) || eqb (cond b p (number x)) (number (m .1)) ≡ false
       unused′ x h true q = unused-next p (F .above p (omega arith)) (λ e. omega (arith, a-below)) (λ e. omega (arith, b-below))
@@ -122,14 +90,6 @@ rows-accepted n t number used (m ∷ P) G F =
     )
     next
 
--- a name is below n where all larger names are
-pub named-below : (n : ℕ) (P : List Merge) → 0 < n → Under n P → (x : ℕ) → named P x ≡ true → x < n
-unfolding named Under
-named-below n [] h u x e = omega (arith, eqb-true 0 x e)
-named-below n (m ∷ P) h u x e =
-    let l = u .0 in
-    ⊎-elim (named-below n P h (u .1) x) (λ q. omega (arith, eqb-true (m .1) x q)) (or-cases (named P x) (eqb (m .1) x) e)
-
 pub table-accepted : (n : ℕ) (P : List Merge) → 0 < n → Under n P → Good P → tableFault n (rowsFrom n (λ c. c) P) ≡ none
 unfolding tableFault
 table-accepted n P h u G =
@@ -147,46 +107,13 @@ pub pairs-accepted : (v : List ℕ) → Valid v → tableFault (length v) (rowsF
 unfolding pairs
 pairs-accepted v ok =
     table-accepted (length v) (pairsOf (entry v) (length v)) (ok .some-leaf) (under-pairs (entry v) (length v))
-    (good (entry v) (length v) (valid-bounded v (length v) ok (omega arith)))
+    (good (entry v) (length v) (valid-bounded v ok))
 
--- both children of row k are below its parent
-unfoldable pub ChildrenBelow : ℕ → List Row → ℕ → Type 0
-ChildrenBelow p rs k = (getD rs k (0, 0, 0) .0 < p + k) × (getD rs k (0, 0, 0) .1 < p + k)
-
--- In an accepted table they are.
-pub accepted-below : (n t : ℕ) (used : ℕ → Bool) (rs : List Row) → rowFault n t used rs ≡ none → (k : ℕ) → k < length rs → ChildrenBelow (n + t) rs k
-unfolding rowFault childrenBelow ChildrenBelow
-accepted-below n t used [] e k h = absurd (omega arith)
-accepted-below n t used (r ∷ rs) e k h =
-    go (eqb (r .2) (n + t)) e (accepted-below n (t + 1) (λ c. used c || eqb c (r .0) || eqb c (r .1)) rs)
-  where
-    later : Option Fault
-    later = rowFault n (t + 1) (λ c. used c || eqb c (r .0) || eqb c (r .1)) rs
-
-    Later : Type 0
-    Later = later ≡ none → (j : ℕ) → j < length rs → ChildrenBelow (n + (t + 1)) rs j
-
-    rest : (b : Bool) → cond b (some (7, t)) later ≡ none → later ≡ none
-    rest true q = absurd (Option·some-ne-none (7, t) q)
-    rest false q = q
-
-    inner : (b : Bool) → ltb (r .0) (n + t) && ltb (r .1) (n + t) ≡ b → cond (not b) (some (6, t)) (cond (namedTwice used r) (some (7, t)) later) ≡ none → Later → (j : ℕ) → j < suc (length rs) → ChildrenBelow (n + t) (r ∷ rs) j
-    inner true q f ih zero l =
-        let x = ltb-true (r .0) (n + t) (and-left (ltb (r .0) (n + t)) (ltb (r .1) (n + t)) q) in
-        let y = ltb-true (r .1) (n + t) (and-right (ltb (r .0) (n + t)) (ltb (r .1) (n + t)) q) in
-        (omega arith, omega arith)
-    inner true q f ih (suc j) l = let z = ih (rest (namedTwice used r) f) j (omega arith) in (omega arith, omega arith)
-    inner false q f ih j l = absurd (Option·some-ne-none (6, t) f)
-
-    go : (b : Bool) → cond (not b) (some (5, t)) (cond (not (childrenBelow (n + t) r)) (some (6, t)) (cond (namedTwice used r) (some (7, t)) later)) ≡ none → Later → ChildrenBelow (n + t) (r ∷ rs) k
-    go true q ih = inner (childrenBelow (n + t) r) refl q ih k h
-    go false q ih = absurd (Option·some-ne-none (5, t) q)
-
--- so they are in the table of a vector
-pub pairs-below : (v : List ℕ) → Valid v → (k : ℕ) → k < length v - 1 → ChildrenBelow (length v) (rowsFrom (length v) (λ c. c) (pairs v)) k
-unfolding tableFault
+-- and each of its rows has its children below its parent
+pub pairs-below : (v : List ℕ) → Valid v → (k : ℕ) → k < length v - 1
+    → (getD (rowsFrom (length v) (λ c. c) (pairs v)) k (0, 0, 0) .0 < length v + k) × (getD (rowsFrom (length v) (λ c. c) (pairs v)) k (0, 0, 0) .1 < length v + k)
+unfolding pairs
 pairs-below v ok k h =
-    let z : length v + 0 ≡ length v = omega arith in
-    rw z at
-    (accepted-below (length v) 0 (λ c. false) (rowsFrom (length v) (λ c. c) (pairs v)) (pairs-accepted v ok) k
-    (omega (arith, rows-length (length v) (λ c. c) (pairs v), pairs-count v ok)))
+    let rows = rowsFrom (length v) (λ c. c) (pairs v) in
+    stands-row (length v) rows k (0, 0, 0) (accepted-stands (length v) rows (pairs-accepted v ok))
+    (omega (arith, rows-length (length v) (λ c. c) (pairs v), pairs-count (entry v) (length v)))
