@@ -1,31 +1,11 @@
 // The C interface: one exported function a call. include/blathersike.h documents each.
 use rules::Answer;
-use rules::Kind;
 ghost use mathlib.Core.Path.{_≡_};
 ghost use Prim.Native.Nat.{min};
 ghost use lib.ListN.{length};
-ghost use Rattle.rules.specs.Answer.{Made, reads, answer, after, numberOf};
+ghost use Rattle.rules.specs.Answer.{Made, reads, answer, after};
 ghost use Rattle.rules.specs.Calls as calls;
 ghost use Rattle.capi.specs.Coded.{coded};
-
-// The number of a kind in the table of refusals.
-fn number_of(kind: Kind) -> u64
-    ensures { λ r. ⌜ r ≡ numberOf kind ⌝ }
-{
-    match kind {
-        Kind::LeafCount => 1,
-        Kind::InputLength => 2,
-        Kind::Room => 3,
-        Kind::Entry => 4,
-        Kind::Parent => 5,
-        Kind::Child => 6,
-        Kind::NamedBefore => 7,
-        Kind::Grammar => 8,
-        Kind::Label => 9,
-        Kind::Padding => 10,
-        Kind::Permutation => 11,
-    }
-}
 
 // The two numbers of an answer.
 fn hand_back(given: Answer, back: &mut [u64; 2])
@@ -37,7 +17,7 @@ fn hand_back(given: Answer, back: &mut [u64; 2])
         }
         Answer::Refused(why) => {
             let kind = why.kind;
-            *back = [number_of(kind), why.place as u64];
+            *back = [kinds::number_of(kind), why.place as u64];
         }
     }
 }

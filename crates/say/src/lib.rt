@@ -1,6 +1,5 @@
 // Lists, bytes and answers on standard output, in the notation of the second program. A write that fails is passed over.
 use rules::Answer;
-use rules::Kind;
 
 // The digits of a number.
 pub fn number(x: usize) {
@@ -66,23 +65,6 @@ pub fn bytes(s: &[u8]) {
     }
 }
 
-// The number of a kind in the table of refusals.
-fn number_of(kind: Kind) -> usize {
-    match kind {
-        Kind::LeafCount => 1,
-        Kind::InputLength => 2,
-        Kind::Room => 3,
-        Kind::Entry => 4,
-        Kind::Parent => 5,
-        Kind::Child => 6,
-        Kind::NamedBefore => 7,
-        Kind::Grammar => 8,
-        Kind::Label => 9,
-        Kind::Padding => 10,
-        Kind::Permutation => 11,
-    }
-}
-
 // `done K` or `refused N P`.
 pub fn answer(given: Answer) {
     match given {
@@ -93,7 +75,7 @@ pub fn answer(given: Answer) {
         Answer::Refused(why) => {
             let kind = why.kind;
             io::write_all(1, b"refused ");
-            number(number_of(kind));
+            io::print_decimal(1, kinds::number_of(kind));
             byte(b' ');
             number(why.place);
         }
