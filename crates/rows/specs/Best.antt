@@ -13,6 +13,7 @@ use Rattle.rules.specs.Tree.{Tree, leaf, node, least}
 use Rattle.rules.specs.Order.{ready, greater, best}
 use Rattle.rows.specs.Larger.{inner, Pair}
 use Rattle.rows.specs.Fits.{Fits}
+use Rattle.rows.specs.Collapse.{ready-is, ready-leaves}
 
 -- a pair of the tree whose two clusters are complete
 unfoldable pub Ready : Merge → Tree → Type 0
@@ -60,22 +61,6 @@ best-is t m h k = go (best t) refl (chosen t)
     go : (o : Option Merge) → best t ≡ o → Chosen (λ d. Ready d t) o → best t ≡ some m
     go none e C = absurd (C m h)
     go (some b) e C = e ∙ ap some (⊎-elim (λ p. p) (λ l. absurd (omega (arith, C .above m h))) (k b (C .is-one)))
-
--- two parts are complete where they are leaves
-pub ready-leaves : (l r : Tree) → inner l + inner r ≡ 0 → ready l r ≡ some (min (least l) (least r), max (least l) (least r))
-unfolding ready inner least
-ready-leaves (leaf a) (leaf b) e = refl
-ready-leaves (leaf a) (node x y) e = absurd (omega arith)
-ready-leaves (node x y) r e = absurd (omega arith)
-
-pub ready-is : (l r : Tree) (m : Merge) → ready l r ≡ some m
-    → (inner l + inner r ≡ 0) × (m .0 ≡ min (least l) (least r)) × (m .1 ≡ max (least l) (least r))
-unfolding ready inner least
-ready-is (leaf a) (leaf b) m e =
-    let p = Option·some-injective (min a b, max a b) m e in
-    (refl, sym (ap (λ (x : Merge). x .0) p), sym (ap (λ (x : Merge). x .1) p))
-ready-is (leaf a) (node x y) m e = absurd (Option·none-ne-some m e)
-ready-is (node x y) r m e = absurd (Option·none-ne-some m e)
 
 -- a pair that waits for none is complete
 pub ready-from : (s u w : ℕ → ℕ) (t : Tree) (p j : ℕ) → Fits s u w t p → Pair t j → w j ≡ 0 → Ready (s j, j) t

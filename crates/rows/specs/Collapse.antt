@@ -1,10 +1,10 @@
 -- What a merge does to a tree and to the arrays that fit it.
--- Main definitions: lowered. Main results: collapse-least, collapse-has, collapse-distinct, collapse-size, collapse-fits, pair-kept, pair-gone, order-step.
+-- Main definitions: lowered. Main results: ready-is, collapse-least, collapse-has, collapse-distinct, collapse-size, collapse-fits, pair-kept, pair-gone, order-step.
 use mathlib.Core.Path.{_≡_, refl, sym, ap, ap₂, _∙_}
 use mathlib.Core.Logic.{_≢_, _⊎_, inl, inr, ⊎-elim}
 use mathlib.Core.Bool.{Bool, true, false, _&&_, cond, true≢false}
 use mathlib.Core.List.{List, [], _∷_}
-use mathlib.Core.Option.{Option, none, some}
+use mathlib.Core.Option.{Option, none, some, Option·none-ne-some, Option·some-injective}
 use Prim.Native.Nat.{ℕ, zero, suc, _+_, _-_, _≤_, _<_, min, max}
 use native.Mathlib.Omega.{arith}
 use lib.Dec.{eqb, ltb}
@@ -15,7 +15,22 @@ use Rattle.rules.specs.Order.{ready, best, isMerge, collapse, ordered, order}
 use Rattle.basics.specs.Bools.{and-left, and-right, and-false}
 use Rattle.rows.specs.Larger.{top, inner, Pair, has-left, has-right, has-cases, least-has, pair-has, pair-above, top-left, top-right, pair-apart}
 use Rattle.rows.specs.Fits.{Fits, Agree, fits-cong, parent}
-use Rattle.rows.specs.Best.{ready-is, ready-leaves}
+
+-- two parts are complete where they are leaves
+pub ready-leaves : (l r : Tree) → inner l + inner r ≡ 0 → ready l r ≡ some (min (least l) (least r), max (least l) (least r))
+unfolding ready inner least
+ready-leaves (leaf a) (leaf b) e = refl
+ready-leaves (leaf a) (node x y) e = absurd (omega arith)
+ready-leaves (node x y) r e = absurd (omega arith)
+
+pub ready-is : (l r : Tree) (m : Merge) → ready l r ≡ some m
+    → (inner l + inner r ≡ 0) × (m .0 ≡ min (least l) (least r)) × (m .1 ≡ max (least l) (least r))
+unfolding ready inner least
+ready-is (leaf a) (leaf b) m e =
+    let p = Option·some-injective (min a b, max a b) m e in
+    (refl, sym (ap (λ (x : Merge). x .0) p), sym (ap (λ (x : Merge). x .1) p))
+ready-is (leaf a) (node x y) m e = absurd (Option·none-ne-some m e)
+ready-is (node x y) r m e = absurd (Option·none-ne-some m e)
 
 -- a merge is the pair of two parts only where both are complete
 pub merge-is : (m : Merge) (l r : Tree) → isMerge m (ready l r) ≡ true
@@ -143,7 +158,7 @@ collapse-right m l r D h =
 unfoldable pub lowered : (ℕ → ℕ) → ℕ → ℕ → ℕ
 lowered w p i = cond (eqb i p) (w i - 1) (w i)
 
-size-leaf : (t : Tree) → inner t ≡ 0 → size t ≡ 1
+pub size-leaf : (t : Tree) → inner t ≡ 0 → size t ≡ 1
 unfolding inner size
 size-leaf (leaf x) e = refl
 size-leaf (node l r) e = absurd (omega arith)
