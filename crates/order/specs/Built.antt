@@ -2,24 +2,24 @@
 -- Main definitions: Built, Adds. Main results: built-start, built-next, built-end.
 use mathlib.Core.Path.{_≡_, refl, sym, ap, ap₂, _∙_, subst}
 use mathlib.Core.Logic.{_≢_, _⊎_, inl, inr, ⊎-elim}
-use mathlib.Core.Bool.{Bool, true, false, not, _||_, cond, true≢false}
+use mathlib.Core.Bool.{Bool, true, false, not, _||_, cond}
 use mathlib.Core.List.{List, [], _∷_, _++_}
-use Prim.Native.Nat.{ℕ, zero, suc, _+_, _-_, _≤_, _<_, min, max}
-use native.Mathlib.Numerals.{add-one}
+use Prim.Native.Nat.{ℕ, zero, suc, _+_, _-_, _*_, _≤_, _<_, min, max}
 use native.Mathlib.Omega.{arith}
-use lib.Dec.{eqb, ltb}
-use lib.ListN.{length, getD, set, length-set, length-append}
+use lib.Dec.{eqb}
+use lib.ListN.{length, set, length-set, length-append}
 use lib.Seq.{getD-set-same, getD-set-other}
-use borrow.Author.Tests.{eqb-true, eqb-false, eq-eqb, ne-eqb, ltb-true, ltb-false, lt-ltb, le-ltb}
+use borrow.Author.Tests.{eqb-true, eqb-false, eq-eqb, ne-eqb, lt-ltb}
 use Rattle.rules.specs.Tree.{Tree, leaf, node, has, least, Distinct, Clusters}
 use Rattle.rules.specs.Table.{Row, nodesOf, tableTree}
 use Rattle.basics.specs.Bools.{or-false}
-use Rattle.rows.specs.Larger.{top, inner, Pair, has-left, has-right, has-cases, least-has, top-has, pair-has, pair-above, least-apart, top-left, top-right, not-top, top-below}
-use Rattle.rows.specs.Fits.{Fits, Agree, fits-cong, fits-hang}
+use Rattle.rows.specs.Larger.{Pair, has-left, has-right, has-cases, least-has, top-has, pair-has, pair-above, least-apart, top-left, top-right}
 use Rattle.rows.specs.Count.{last-or-before, count, count-pos, count-without}
 use Rattle.rows.specs.Forest.{namedAlso, namedIn, noded, RowOk, Forest, forest-start, forest-next, forest-end, named-snoc, nodes-snoc, named-no}
-use Rattle.order.specs.Climb.{cell, Drawn}
-use Rattle.order.specs.Vector.{given}
+use Rattle.rows.specs.Chains.{lowest, chain, Smaller, In, Bounded, in-left, chain-own, chain-other, chain-in, lowest-starts}
+use Rattle.order.specs.Walk.{cell, Held, last-cases, held-kept, held-more}
+use Rattle.order.specs.Chain.{one-chain, smaller-cong, chain-of-left, chain-of-right}
+use Rattle.order.specs.Vector.{Drawn}
 
 -- the children that rows name, and their nodes as trees
 abbrev pub taken : List Row → ℕ → Bool
@@ -28,108 +28,108 @@ taken rs = namedIn (λ c. false) rs
 abbrev pub nodes : List Row → Clusters
 nodes rs = nodesOf rs leaf
 
--- the name of node k, its larger name, and whether it is an inner node, as the code looks them up
-unfoldable pub nameOf : List ℕ → ℕ → ℕ → ℕ
-nameOf names n k = cond (ltb k n) k (cell names (k - n))
+-- what the arrays tell of node k, whose tree is t: its name, its key, the smaller names of its pairs, and the chains of its leaves
+pub record Tells (k : ℕ) (t : Tree) (names lows small next last : List ℕ) : Type 0 where
+  pub name : cell names k ≡ least t
+  pub key : cell lows k ≡ lowest 1024 t
+  pub smaller : Smaller (cell small) t
+  pub held : (x : ℕ) → has t x ≡ true → Held (cell next) (cell last) x (chain 1024 t x)
 
-unfoldable pub largerOf : List ℕ → ℕ → ℕ → ℕ
-largerOf larger n k = cond (ltb k n) 0 (cell larger (k - n))
-
-unfoldable pub innerOf : ℕ → ℕ → ℕ
-innerOf n k = cond (ltb k n) 0 1
-
--- the rows are added: names and larger tell of each inner node its name and its larger name,
--- and the arrays fit the tree of each node that no row has taken as a child
-pub record Built (n : ℕ) (rs : List Row) (names larger small up waits : List ℕ) : Type 0 where
+-- the rows are added: the arrays tell of each node that no row has taken as a child
+pub record Built (n : ℕ) (rs : List Row) (names lows small next last : List ℕ) : Type 0 where
   pub forest : Forest n (length rs) (taken rs) (nodes rs)
-  pub called : (k : ℕ) → k < n + length rs → nameOf names n k ≡ least (nodes rs k)
-  pub topped : (k : ℕ) → k < n + length rs → largerOf larger n k ≡ top (nodes rs k)
-  pub kinds : (k : ℕ) → k < n + length rs → innerOf n k ≡ inner (nodes rs k)
-  pub fits : (k : ℕ) → k < n + length rs → taken rs k ≡ false → Fits (cell small) (cell up) (cell waits) (nodes rs k) 0
+  pub free : (k : ℕ) → k < n + length rs → taken rs k ≡ false → Tells k (nodes rs k) names lows small next last
   pub few : n ≤ 1024
-  pub names-room : n ≤ length names + 1
-  pub larger-room : n ≤ length larger + 1
+  pub names-room : 2 * n ≤ length names
+  pub lows-room : 2 * n ≤ length lows
   pub small-room : n ≤ length small
-  pub up-room : n ≤ length up
-  pub waits-room : n ≤ length waits
+  pub next-room : n ≤ length next
+  pub last-room : n ≤ length last
 
--- row t, with the children l and r, can be added
-pub record Adds (n : ℕ) (rs : List Row) (t l r : ℕ) (names larger small up waits : List ℕ) : Type 0 where
-  pub built : Built n rs names larger small up waits
-  pub count : length rs ≡ t
-  pub row : RowOk n (length rs) (taken rs) (l, r, n + t)
+-- a row with the children l and r and the parent p can be added
+pub record Adds (n : ℕ) (rs : List Row) (p l r : ℕ) (names lows small next last : List ℕ) : Type 0 where
+  pub built : Built n rs names lows small next last
+  pub count : p ≡ n + length rs
+  pub row : RowOk n (length rs) (taken rs) (l, r, p)
 
 -- no rows: every node is a leaf
-pub built-start : {n : ℕ} {names larger small up waits : List ℕ} → n ≤ 1024 → n ≤ length names + 1 → n ≤ length larger + 1 → n ≤ length small → n ≤ length up → n ≤ length waits
-    → Built n [] names larger small up waits
-unfolding namedIn nodesOf nameOf largerOf innerOf least top inner Fits
-built-start {n} few a b c d e = record {
+pub built-start : {n : ℕ} {names lows small next last : List ℕ} → n ≤ 1024 → 2 * n ≤ length names → 2 * n ≤ length lows → n ≤ length small → n ≤ length next → n ≤ length last
+    → ((k : ℕ) → k < n → cell names k ≡ k) → ((k : ℕ) → k < n → cell lows k ≡ 1024) → ((k : ℕ) → k < n → cell last k ≡ 0) → Built n [] names lows small next last
+unfolding namedIn nodesOf least lowest Smaller Held chain has
+built-start {n} few a b c d e named keyed none = record {
   forest = forest-start n;
-  called = λ k h. rw (lt-ltb k n (omega arith));
-  topped = λ k h. rw (lt-ltb k n (omega arith));
-  kinds = λ k h. rw (lt-ltb k n (omega arith));
-  fits = λ k h f. tt;
+  free = λ k h f. record {
+    name = named k (omega arith);
+    key = keyed k (omega arith);
+    smaller = tt;
+    held = λ x q. none x (omega (arith, eqb-true k x q));
+  };
   few = few;
   names-room = a;
-  larger-room = b;
+  lows-room = b;
   small-room = c;
-  up-room = d;
-  waits-room = e;
+  next-room = d;
+  last-room = e;
 }
 
 -- n-1 rows: the arrays are those of the table's tree
-pub built-end : {n : ℕ} {rs : List Row} {names larger small up waits : List ℕ} → Built n rs names larger small up waits → length rs ≡ n - 1 → 1 ≤ n
-    → Drawn (given n small (tableTree n rs)) up waits
+pub built-end : {n : ℕ} {rs : List Row} {names lows small next last : List ℕ} → Built n rs names lows small next last → length rs ≡ n - 1 → 1 ≤ n
+    → Drawn n (tableTree n rs) small next last
 unfolding tableTree
-built-end {n} {rs} B e h = record {
-  below = forest-end n (length rs) (taken rs) (nodes rs) (B .forest) (omega arith);
-  fits = B .fits (n + length rs - 1) (omega arith) (B .forest .last h);
-  some-leaf = h;
-  few = B .few;
-  up-room = B .up-room;
-  waits-room = B .waits-room;
-}
+built-end {n} {rs} B e h =
+    let L = forest-end n (length rs) (taken rs) (nodes rs) (B .forest) (omega arith) in
+    let T = B .free (n + length rs - 1) (omega arith) (B .forest .last h) in
+    record {
+      below = L;
+      smaller = T .smaller;
+      held = λ k l. T .held k (L .all k ∙ lt-ltb k n l);
+      some-leaf = h;
+      few = B .few;
+      small-room = B .small-room;
+      next-room = B .next-room;
+      last-room = B .last-room;
+    }
 
 -- One row more.
-module _ {n : ℕ} {rs : List Row} {t l r : ℕ} {names larger small up waits : List ℕ} (A : Adds n rs t l r names larger small up waits) where
-  B : Built n rs names larger small up waits
+module _ {n : ℕ} {rs : List Row} {p l r : ℕ} {names lows small next last : List ℕ} (A : Adds n rs p l r names lows small next last) where
+  B : Built n rs names lows small next last
   B = A .built
 
   F : Forest n (length rs) (taken rs) (nodes rs)
   F = A .built .forest
 
-  R : RowOk n (length rs) (taken rs) (l, r, n + t)
+  R : RowOk n (length rs) (taken rs) (l, r, p)
   R = A .row
 
-  -- the two parts, and the new node
+  -- the two parts, their larger name and their key
   abbrev L′ : Tree
   L′ = nodes rs l
 
   abbrev R′ : Tree
   R′ = nodes rs r
 
-  -- two free nodes are left before, so that n leaves have room for row t
-  pub adds-few : t + 2 ≤ n
+  abbrev I : ℕ
+  I = max (least L′) (least R′)
+
+  abbrev S : ℕ
+  S = min (least L′) (least R′)
+
+  abbrev K : ℕ
+  K = min I (min (lowest 1024 L′) (lowest 1024 R′))
+
+  left : Tells l L′ names lows small next last
+  left = B .free l (R .first) (R .first-new)
+
+  right : Tells r R′ names lows small next last
+  right = B .free r (R .second) (R .second-new)
+
+  -- two free nodes are left before, so that n leaves have room for one row more
+  adds-few : length rs + 2 ≤ n
   adds-few =
       let one = count-without (λ k. not (taken rs k)) (λ k. not (taken rs k || eqb k l)) l (n + length rs) (R .first)
       (rw (R .first-new)) (rw (R .first-new, eq-eqb l l refl)) (λ x h. rw (ne-eqb x l h) (ap not (or-false (taken rs x)))) in
       let two = count-pos (λ k. not (taken rs k || eqb k l)) r (n + length rs) (R .second) (rw (R .second-new, ne-eqb r l (λ q. R .differ (sym q)))) in
-      omega (arith, F .left, A .count)
-
-  pub adds-name : (k : ℕ) → k < n + t → nameOf names n k ≡ least (nodes rs k)
-  adds-name k h = B .called k (omega (arith, A .count))
-
-  pub adds-larger : (k : ℕ) → k < n + t → largerOf larger n k ≡ top (nodes rs k)
-  adds-larger k h = B .topped k (omega (arith, A .count))
-
-  pub adds-inner : (k : ℕ) → k < n + t → innerOf n k ≡ inner (nodes rs k)
-  adds-inner k h = B .kinds k (omega (arith, A .count))
-
-  pub adds-below : (k : ℕ) → k < n + t → (least (nodes rs k) < n) × (top (nodes rs k) < n)
-  adds-below k h =
-      let f = F .below k in
-      let g = adds-few in
-      (f (least (nodes rs k)) (omega (arith, A .count)) (least-has (nodes rs k)), top-below (nodes rs k) n (omega arith) (λ x e. f x (omega (arith, A .count)) e))
+      omega (arith, F .left)
 
   parts-once : Distinct (node L′ R′)
   unfolding Distinct
@@ -139,109 +139,171 @@ module _ {n : ℕ} {rs : List Row} {t l r : ℕ} {names larger small up waits : 
     F .once r (R .second),
   )
 
-  abbrev I : ℕ
-  I = max (least L′) (least R′)
+  parts-below : (x : ℕ) → has (node L′ R′) x ≡ true → x < n
+  parts-below x e = ⊎-elim (F .below l x (R .first)) (F .below r x (R .second)) (has-cases L′ R′ x e)
 
-  abbrev up′ : List ℕ
-  up′ = set (set (set up (top L′) I) (top R′) I) I 0
-
-  some-leaf : 1 ≤ n
-  some-leaf = let g = adds-few in omega arith
+  parts-bounded : Bounded 1024 (node L′ R′)
+  parts-bounded x e = omega (arith, parts-below x e, B .few)
 
   I-below : I < n
-  I-below = let a = adds-below l (omega (arith, R .first, A .count)) in let b = adds-below r (omega (arith, R .second, A .count)) in omega arith
+  I-below = parts-below I (top-has L′ R′)
 
-  left-below : top L′ < n
-  left-below = adds-below l (omega (arith, R .first, A .count)) .1
+  I-pos : 1 ≤ I
+  I-pos = let a = least-apart L′ R′ parts-once in omega arith
 
-  right-below : top R′ < n
-  right-below = adds-below r (omega (arith, R .second, A .count)) .1
+  -- the key is a leaf of the new node
+  K-has : has (node L′ R′) K ≡ true
+  unfolding lowest In
+  K-has =
+      let s = lowest-starts 1024 (node L′ R′) parts-once parts-bounded (omega (arith, I-below, B .few)) in
+      pair-has (node L′ R′) K (chain-in 1024 (node L′ R′) K K (rw (s .1) (inl refl)))
 
-  up-other : (x : ℕ) → x ≢ top L′ → x ≢ top R′ → x ≢ I → cell up′ x ≡ cell up x
-  up-other x a b c =
-      getD-set-other (set (set up (top L′) I) (top R′) I) I x 0 0 c
-      ∙ getD-set-other (set up (top L′) I) (top R′) x I 0 b
-      ∙ getD-set-other up (top L′) x I 0 a
+  K-below : K < n
+  K-below = parts-below K K-has
 
-  up-root : cell up′ I ≡ 0
-  up-root = getD-set-same (set (set up (top L′) I) (top R′) I) I 0 0
-      (omega (arith, I-below, B .up-room, length-set up (top L′) I, length-set (set up (top L′) I) (top R′) I))
+  -- the chain of a leaf of the new node, before
+  old-chain : (x : ℕ) → has (node L′ R′) x ≡ true
+      → (c : List ℕ) × (chain 1024 L′ x ++ chain 1024 R′ x ≡ c) × Held (cell next) (cell last) x c × ((y : ℕ) → In y c → Pair L′ y ⊎ Pair R′ y)
+  old-chain x e = ⊎-elim
+      (λ h. (chain 1024 L′ x, chain-of-left 1024 L′ R′ parts-once parts-bounded x h, left .held x h, λ y i. inl (chain-in 1024 L′ x y i)))
+      (λ h. (chain 1024 R′ x, chain-of-right 1024 L′ R′ parts-once parts-bounded x h, right .held x h, λ y i. inr (chain-in 1024 R′ x y i)))
+      (has-cases L′ R′ x e)
 
-  up-right : top R′ ≢ I → cell up′ (top R′) ≡ I
-  up-right h =
-      getD-set-other (set (set up (top L′) I) (top R′) I) I (top R′) 0 0 h
-      ∙ getD-set-same (set up (top L′) I) (top R′) I 0 (omega (arith, right-below, B .up-room, length-set up (top L′) I))
+  abbrev J : ℕ
+  J = cell last K
 
-  up-left : top L′ ≢ I → top L′ ≢ top R′ → cell up′ (top L′) ≡ I
-  up-left h k =
-      getD-set-other (set (set up (top L′) I) (top R′) I) I (top L′) 0 0 h
-      ∙ getD-set-other (set up (top L′) I) (top R′) (top L′) I 0 k
-      ∙ getD-set-same up (top L′) I 0 (omega (arith, left-below, B .up-room))
+  -- the last name of the key's chain: none, or a larger name of the parts
+  J-cases : (J ≡ 0) ⊎ ((1 ≤ J) × (Pair L′ J ⊎ Pair R′ J) × In J (chain 1024 L′ K ++ chain 1024 R′ K))
+  J-cases =
+      let o = old-chain K K-has in
+      ⊎-elim (λ e. inl e) (λ q. inr (q .0, o .3 J (q .1), rw (o .1) (q .1))) (last-cases (cell next) (cell last) K (o .0) (o .2))
 
-  -- the other arrays change at I alone
-  small-other : (a x : ℕ) → x ≢ I → cell (set small I a) x ≡ cell small x
-  small-other a x h = getD-set-other small I x a 0 h
+  old-not-new : (y : ℕ) → Pair L′ y ⊎ Pair R′ y → y ≢ I
+  old-not-new y q e = ⊎-elim (λ a. top-left L′ R′ parts-once (rw e at a)) (λ a. top-right L′ R′ parts-once (rw e at a)) q
 
-  waits-other : (a x : ℕ) → x ≢ I → cell (set waits I a) x ≡ cell waits x
-  waits-other a x h = getD-set-other waits I x a 0 h
+  J-below : J < n
+  J-below = ⊎-elim (λ e. omega (arith, I-below)) (λ q. ⊎-elim (λ a. F .below l J (R .first) (pair-has L′ J a)) (λ a. F .below r J (R .second) (pair-has R′ J a)) (q .1)) J-cases
 
-  -- a larger name is not 0
-  name-pos : (k x : ℕ) → k < n + length rs → Pair (nodes rs k) x → 1 ≤ x
-  name-pos k x h p = omega (arith, pair-above (nodes rs k) x (F .once k h) p)
+  J-not-new : I ≢ J
+  J-not-new e = ⊎-elim (λ z. omega (arith, I-pos)) (λ q. old-not-new J (q .1) (sym e)) J-cases
 
-  left-fits : (a w : ℕ) → Fits (cell (set small I a)) (cell up′) (cell (set waits I w)) L′ I
-  unfolding Agree Distinct
-  left-fits a w =
-      fits-hang (cell small) (cell up) (cell waits) (cell (set small I a)) (cell up′) (cell (set waits I w)) L′ 0 I (F .once l (R .first))
-      (λ x p. small-other a x (λ e. top-left L′ R′ parts-once (rw e at p)))
-      (λ x p. waits-other w x (λ e. top-left L′ R′ parts-once (rw e at p)))
-      (λ x p h. up-other x h (not-top R′ x (name-pos l x (R .first) p) (parts-once .0 x (pair-has L′ x p))) (λ e. top-left L′ R′ parts-once (rw e at p)))
-      (λ p. up-left (λ e. top-left L′ R′ parts-once (rw e at p))
-      (not-top R′ (top L′) (name-pos l (top L′) (R .first) p) (parts-once .0 (top L′) (pair-has L′ (top L′) p))))
-      (B .fits l (R .first) (R .first-new))
+  abbrev next′ : List ℕ
+  next′ = set (set next I 0) J I
 
-  right-fits : (a w : ℕ) → Fits (cell (set small I a)) (cell up′) (cell (set waits I w)) R′ I
-  unfolding Agree Distinct
-  right-fits a w =
-      fits-hang (cell small) (cell up) (cell waits) (cell (set small I a)) (cell up′) (cell (set waits I w)) R′ 0 I (F .once r (R .second))
-      (λ x p. small-other a x (λ e. top-right L′ R′ parts-once (rw e at p)))
-      (λ x p. waits-other w x (λ e. top-right L′ R′ parts-once (rw e at p)))
-      (λ x p h. up-other x (not-top L′ x (name-pos r x (R .second) p) (λ k. parts-once .0 x k (pair-has R′ x p))) h (λ e. top-right L′ R′ parts-once (rw e at p)))
-      (λ p. up-right (λ e. top-right L′ R′ parts-once (rw e at p)))
-      (B .fits r (R .second) (R .second-new))
+  abbrev last′ : List ℕ
+  last′ = set last K I
 
-  new-fits : Fits (cell (set small I (min (least L′) (least R′)))) (cell up′) (cell (set waits I (inner L′ + inner R′))) (node L′ R′) 0
-  unfolding Fits
-  new-fits = (
-    getD-set-same small I (min (least L′) (least R′)) 0 (omega (arith, I-below, B .small-room)),
-    up-root,
-    getD-set-same waits I (inner L′ + inner R′) 0 (omega (arith, I-below, B .waits-room)),
-    left-fits (min (least L′) (least R′)) (inner L′ + inner R′),
-    right-fits (min (least L′) (least R′)) (inner L′ + inner R′),
-  )
+  next-new : cell next′ I ≡ 0
+  next-new = getD-set-other (set next I 0) J I I 0 J-not-new ∙ getD-set-same next I 0 0 (omega (arith, I-below, B .next-room))
 
-  -- a free node that the row does not take
-  old-fits : (a w k : ℕ) → k < n + length rs → taken rs k ≡ false → k ≢ l → k ≢ r → Fits (cell (set small I a)) (cell up′) (cell (set waits I w)) (nodes rs k) 0
-  unfolding Agree
-  old-fits a w k h e f g =
-      fits-cong (cell small) (cell up) (cell waits) (cell (set small I a)) (cell up′) (cell (set waits I w)) (nodes rs k) 0
-      (λ x p. small-other a x (not-new x p))
-      (λ x p. up-other x (not-top L′ x (name-pos k x h p) (in-left x p)) (not-top R′ x (name-pos k x h p) (in-right x p)) (not-new x p))
-      (λ x p. waits-other w x (not-new x p))
-      (B .fits k h e)
+  next-last : cell next′ J ≡ I
+  next-last = getD-set-same (set next I 0) J I 0 (omega (arith, J-below, B .next-room, length-set next I 0))
+
+  next-other : (y : ℕ) → y ≢ I → y ≢ J → cell next′ y ≡ cell next y
+  next-other y a b = getD-set-other (set next I 0) J y I 0 b ∙ getD-set-other next I y 0 0 a
+
+  last-new : cell last′ K ≡ I
+  last-new = getD-set-same last K I 0 (omega (arith, K-below, B .last-room))
+
+  last-other : (x : ℕ) → x ≢ K → cell last′ x ≡ cell last x
+  last-other x h = getD-set-other last K x I 0 h
+
+  pair-pos : (y : ℕ) → Pair L′ y ⊎ Pair R′ y → 1 ≤ y
+  pair-pos y q = ⊎-elim (λ a. omega (arith, pair-above L′ y (F .once l (R .first)) a)) (λ a. omega (arith, pair-above R′ y (F .once r (R .second)) a)) q
+
+  in-whole : (k y : ℕ) → In y (chain 1024 L′ k ++ chain 1024 R′ k) → In y (chain 1024 (node L′ R′) k)
+  unfolding chain
+  in-whole k y i = in-left y (chain 1024 L′ k ++ chain 1024 R′ k) (cond (eqb k (lowest 1024 (node L′ R′))) (I ∷ []) []) i
+
+  -- the chains of the new node: that of its key is longer by its own pair
+  key-held : Held (cell next′) (cell last′) K (chain 1024 (node L′ R′) K)
+  unfolding lowest
+  key-held =
+      let o = old-chain K K-has in
+      rw (chain-own 1024 L′ R′ K refl, o .1)
+      (held-more (cell next) (cell last) (cell next′) (cell last′) K (o .0) I (o .2) I-pos last-new next-new (λ h. next-last)
+      (λ y i. next-other y (old-not-new y (o .3 y i))))
+
+  other-held : (x : ℕ) → has (node L′ R′) x ≡ true → x ≢ K → Held (cell next′) (cell last′) x (chain 1024 (node L′ R′) x)
+  unfolding lowest
+  other-held x e d =
+      let o = old-chain x e in
+      rw (chain-other 1024 L′ R′ x d, o .1)
+      (held-kept (cell next) (cell last) (cell next′) (cell last′) x (o .0) (last-other x d)
+      (λ y i. next-other y (old-not-new y (o .3 y i)) (not-last (o .0) (o .1) (o .3) y i)) (o .2))
     where
-      in-left : (x : ℕ) → Pair (nodes rs k) x → has L′ x ≡ true → ⊥
-      in-left x p q = f (F .apart k l x h (R .first) e (R .first-new) (pair-has (nodes rs k) x p) q)
+      -- the last name of the key's chain is in no other
+      not-last : (c : List ℕ) → chain 1024 L′ x ++ chain 1024 R′ x ≡ c → ((y : ℕ) → In y c → Pair L′ y ⊎ Pair R′ y) → (y : ℕ) → In y c → y ≢ J
+      not-last c f g y i q = ⊎-elim
+          (λ z. omega (arith, pair-pos y (g y i)))
+          (λ w. d (one-chain 1024 (node L′ R′) x K J parts-once (in-whole x J (rw f (rw q at i))) (in-whole K J (w .2)))) J-cases
 
-      in-right : (x : ℕ) → Pair (nodes rs k) x → has R′ x ≡ true → ⊥
-      in-right x p q = g (F .apart k r x h (R .second) e (R .second-new) (pair-has (nodes rs k) x p) q)
-
-      not-new : (x : ℕ) → Pair (nodes rs k) x → x ≢ I
-      not-new x p q = ⊎-elim (in-left x p) (in-right x p) (has-cases L′ R′ x (rw (sym q) at (top-has L′ R′)))
+  new-held : (x : ℕ) → has (node L′ R′) x ≡ true → Held (cell next′) (cell last′) x (chain 1024 (node L′ R′) x)
+  new-held x e = go (eqb x K) refl
+    where
+      go : (b : Bool) → eqb x K ≡ b → Held (cell next′) (cell last′) x (chain 1024 (node L′ R′) x)
+      go true q = rw (eqb-true x K q) key-held
+      go false q = other-held x e (eqb-false x K q)
 
   -- ---- the new state
+  abbrev small′ : List ℕ
+  small′ = set small I S
+
+  abbrev names′ : List ℕ
+  names′ = set names p S
+
+  abbrev lows′ : List ℕ
+  lows′ = set lows p K
+
+  small-other : (x : ℕ) → x ≢ I → cell small′ x ≡ cell small x
+  small-other x h = getD-set-other small I x S 0 h
+
+  pub adds-parent : (p < length names) × (p < length lows) × (l < length names) × (r < length names) × (l < length lows) × (r < length lows)
+  adds-parent = let g = adds-few in let c = A .count in omega (arith, R .first, R .second, B .names-room, B .lows-room)
+
+  new-tells : Tells p (node L′ R′) names′ lows′ small′ next′ last′
+  unfolding least lowest Smaller
+  new-tells = record {
+    name = getD-set-same names p S 0 (adds-parent .0);
+    key = getD-set-same lows p K 0 (adds-parent .1);
+    smaller = (
+      getD-set-same small I S 0 (omega (arith, I-below, B .small-room)),
+      smaller-cong (cell small) (cell small′) L′ (λ x a. small-other x (old-not-new x (inl a))) (left .smaller),
+      smaller-cong (cell small) (cell small′) R′ (λ x a. small-other x (old-not-new x (inr a))) (right .smaller),
+    );
+    held = new-held;
+  }
+
+  -- a free node that the row does not take has none of the row's leaves
+  old-tells : (k : ℕ) → k < n + length rs → taken rs k ≡ false → k ≢ l → k ≢ r → Tells k (nodes rs k) names′ lows′ small′ next′ last′
+  old-tells k h e f g =
+      let T = B .free k h e in
+      let c = A .count in
+      record {
+        name = getD-set-other names p k S 0 (omega arith) ∙ T .name;
+        key = getD-set-other lows p k K 0 (omega arith) ∙ T .key;
+        smaller = smaller-cong (cell small) (cell small′) (nodes rs k) (λ x a. small-other x (apart x (pair-has (nodes rs k) x a) I (top-has L′ R′))) (T .smaller);
+        held = λ x q. held-kept (cell next) (cell last) (cell next′) (cell last′) x (chain 1024 (nodes rs k) x) (last-other x (apart x q K K-has))
+            (λ y i. next-other y (apart y (in-tree x y i) I (top-has L′ R′)) (not-last y (in-tree x y i) (positive x y i))) (T .held x q);
+      }
+    where
+      apart : (x : ℕ) → has (nodes rs k) x ≡ true → (z : ℕ) → has (node L′ R′) z ≡ true → x ≢ z
+      apart x a z b q = ⊎-elim
+          (λ d. f (F .apart k l z h (R .first) e (R .first-new) (rw q at a) d))
+          (λ d. g (F .apart k r z h (R .second) e (R .second-new) (rw q at a) d)) (has-cases L′ R′ z b)
+
+      in-tree : (x y : ℕ) → In y (chain 1024 (nodes rs k) x) → has (nodes rs k) y ≡ true
+      in-tree x y i = pair-has (nodes rs k) y (chain-in 1024 (nodes rs k) x y i)
+
+      positive : (x y : ℕ) → In y (chain 1024 (nodes rs k) x) → 1 ≤ y
+      positive x y i = omega (arith, pair-above (nodes rs k) y (F .once k h) (chain-in 1024 (nodes rs k) x y i))
+
+      not-last : (y : ℕ) → has (nodes rs k) y ≡ true → 1 ≤ y → y ≢ J
+      not-last y a b q = ⊎-elim (λ z. omega arith)
+          (λ w. ⊎-elim (λ d. apart y a J (has-left L′ R′ J (pair-has L′ J d)) q) (λ d. apart y a J (has-right L′ R′ J (pair-has R′ J d)) q) (w .1)) J-cases
+
   abbrev row′ : Row
-  row′ = (l, r, n + t)
+  row′ = (l, r, p)
 
   abbrev rs′ : List Row
   rs′ = rs ++ (row′ ∷ [])
@@ -249,122 +311,63 @@ module _ {n : ℕ} {rs : List Row} {t l r : ℕ} {names larger small up waits : 
   long : length rs′ ≡ length rs + 1
   long = length-append rs (row′ ∷ [])
 
-  nodes-new : (k : ℕ) → k ≡ n + t → nodes rs′ k ≡ node L′ R′
-  unfolding noded
-  nodes-new k e = ap (λ (c : Clusters). c k) (nodes-snoc leaf rs row′) ∙ rw (eq-eqb k (n + t) e)
-
-  nodes-old : (k : ℕ) → k < n + t → nodes rs′ k ≡ nodes rs k
-  unfolding noded
-  nodes-old k h = ap (λ (c : Clusters). c k) (nodes-snoc leaf rs row′) ∙ rw (ne-eqb k (n + t) (omega arith))
-
-  new-or-old : (k : ℕ) → k < n + length rs′ → (k ≡ n + t) ⊎ (k < n + t)
-  new-or-old k h = last-or-before (n + t) k (omega (arith, long, A .count))
-
   forest′ : Forest n (length rs′) (taken rs′) (nodes rs′)
   forest′ = rw (long, named-snoc (λ c. false) rs row′, nodes-snoc leaf rs row′) (forest-next n (length rs) (taken rs) (nodes rs) row′ F R)
 
-  -- what is looked up after names[t] or larger[t] is set
-  looked : (xs : List ℕ) (a d k : ℕ) → t < length xs → (k ≡ n + t) ⊎ (k < n + t) → cond (ltb k n) d (cell (set xs t a) (k - n)) ≡ cond (eqb k (n + t)) a (cond (ltb k n) d (cell xs (k - n)))
-  looked xs a d k h (inl e) =
-      let z : k - n ≡ t = omega arith in
-      rw (le-ltb k n (omega arith), eq-eqb k (n + t) e, z) (getD-set-same xs t a 0 h)
-  looked xs a d k h (inr e) = rw (ne-eqb k (n + t) (omega arith)) (go (ltb k n) refl)
+  free′ : (k : ℕ) → k < n + length rs′ → taken rs′ k ≡ false → Tells k (nodes rs′ k) names′ lows′ small′ next′ last′
+  unfolding noded
+  free′ k h e = go (last-or-before p k (omega (arith, long, A .count)))
     where
-      go : (b : Bool) → ltb k n ≡ b → cond b d (cell (set xs t a) (k - n)) ≡ cond b d (cell xs (k - n))
-      go true q = refl
-      go false q = getD-set-other xs t (k - n) a 0 (let y = ltb-false k n q in omega arith)
+      there : nodes rs′ k ≡ noded (nodes rs) row′ k
+      there = ap (λ (c : Clusters). c k) (nodes-snoc leaf rs row′)
 
-  called′ : (k : ℕ) → k < n + length rs′ → nameOf (set names t (min (least L′) (least R′))) n k ≡ least (nodes rs′ k)
-  unfolding nameOf least
-  called′ k h = looked names (min (least L′) (least R′)) k k (let g = adds-few in omega (arith, B .names-room)) (new-or-old k h) ∙ go (new-or-old k h)
-    where
-      go : (k ≡ n + t) ⊎ (k < n + t) → cond (eqb k (n + t)) (min (least L′) (least R′)) (cond (ltb k n) k (cell names (k - n))) ≡ least (nodes rs′ k)
-      go (inl e) = rw (eq-eqb k (n + t) e, nodes-new k e)
-      go (inr e) = rw (ne-eqb k (n + t) (omega arith), nodes-old k e) (adds-name k e)
+      none : namedAlso (taken rs) row′ k ≡ false
+      none = ap (λ (f : ℕ → Bool). f k) (sym (named-snoc (λ c. false) rs row′)) ∙ e
 
-  topped′ : (k : ℕ) → k < n + length rs′ → largerOf (set larger t I) n k ≡ top (nodes rs′ k)
-  unfolding largerOf top
-  topped′ k h = looked larger I 0 k (let g = adds-few in omega (arith, B .larger-room)) (new-or-old k h) ∙ go (new-or-old k h)
-    where
-      go : (k ≡ n + t) ⊎ (k < n + t) → cond (eqb k (n + t)) I (cond (ltb k n) 0 (cell larger (k - n))) ≡ top (nodes rs′ k)
-      go (inl e) = rw (eq-eqb k (n + t) e, nodes-new k e)
-      go (inr e) = rw (ne-eqb k (n + t) (omega arith), nodes-old k e) (adds-larger k e)
-
-  kinds′ : (k : ℕ) → k < n + length rs′ → innerOf n k ≡ inner (nodes rs′ k)
-  unfolding innerOf inner
-  kinds′ k h = go (new-or-old k h)
-    where
-      go : (k ≡ n + t) ⊎ (k < n + t) → innerOf n k ≡ inner (nodes rs′ k)
-      go (inl e) = rw (nodes-new k e, le-ltb k n (omega arith))
-      go (inr e) = rw (nodes-old k e) (adds-inner k e)
-
-  fits′ : (k : ℕ) → k < n + length rs′ → taken rs′ k ≡ false
-      → Fits (cell (set small I (min (least L′) (least R′)))) (cell up′) (cell (set waits I (inner L′ + inner R′))) (nodes rs′ k) 0
-  fits′ k h e = go (new-or-old k h)
-    where
-      free : namedAlso (taken rs) row′ k ≡ false
-      free = ap (λ (f : ℕ → Bool). f k) (sym (named-snoc (λ c. false) rs row′)) ∙ e
-
-      go : (k ≡ n + t) ⊎ (k < n + t) → Fits (cell (set small I (min (least L′) (least R′)))) (cell up′) (cell (set waits I (inner L′ + inner R′))) (nodes rs′ k) 0
-      go (inl q) = rw (nodes-new k q) new-fits
+      go : (k ≡ p) ⊎ (k < p) → Tells k (nodes rs′ k) names′ lows′ small′ next′ last′
+      go (inl q) = rw (there, eq-eqb k p q) (rw q new-tells)
       go (inr q) =
-          let f = named-no (taken rs) row′ k free in
-          rw (nodes-old k q) (old-fits (min (least L′) (least R′)) (inner L′ + inner R′) k (omega (arith, A .count)) (f .0) (f .1) (f .2))
+          let f = named-no (taken rs) row′ k none in
+          rw (there, ne-eqb k p (omega arith)) (old-tells k (omega (arith, A .count)) (f .0) (f .1) (f .2))
 
-  built′ : Built n rs′ (set names t (min (least L′) (least R′))) (set larger t I) (set small I (min (least L′) (least R′))) up′ (set waits I (inner L′ + inner R′))
+  built′ : Built n rs′ names′ lows′ small′ next′ last′
   built′ = record {
     forest = forest′;
-    called = called′;
-    topped = topped′;
-    kinds = kinds′;
-    fits = fits′;
+    free = free′;
     few = B .few;
-    names-room = omega (arith, length-set names t (min (least L′) (least R′)), B .names-room);
-    larger-room = omega (arith, length-set larger t I, B .larger-room);
-    small-room = omega (arith, length-set small I (min (least L′) (least R′)), B .small-room);
-    up-room = omega (arith, length-set up (top L′) I, length-set (set up (top L′) I) (top R′) I, length-set (set (set up (top L′) I) (top R′) I) I 0, B .up-room);
-    waits-room = omega (arith, length-set waits I (inner L′ + inner R′), B .waits-room);
+    names-room = omega (arith, length-set names p S, B .names-room);
+    lows-room = omega (arith, length-set lows p K, B .lows-room);
+    small-room = omega (arith, length-set small I S, B .small-room);
+    next-room = omega (arith, length-set next I 0, length-set (set next I 0) J I, B .next-room);
+    last-room = omega (arith, length-set last K I, B .last-room);
   }
 
-  -- room for what the code looks up and stores
-  pub adds-children : (l < n + t) × (r < n + t) × (t < length names) × (t < length larger)
-  adds-children = let g = adds-few in omega (arith, R .first, R .second, A .count, B .names-room, B .larger-room)
+  -- a and i are the smaller and the larger name of the row's pair, k its key and j the last name with that key
+  module _ {x y a i u v w k : ℕ} (ex : x ≡ cell names l) (ey : y ≡ cell names r) (ea : a ≡ min x y) (ei : i ≡ max x y)
+      (eu : u ≡ cell lows l) (ev : v ≡ cell lows r) (ew : w ≡ min u v) (ek : k ≡ min i w) where
+    is-smaller : a ≡ S
+    is-smaller = ea ∙ ap₂ min (ex ∙ left .name) (ey ∙ right .name)
 
-  -- a and i are the smaller and the larger name of the row's pair, p and q the larger names of its children
-  module _ {x y a i p q : ℕ} (ex : x ≡ nameOf names n l) (ey : y ≡ nameOf names n r) (ea : a ≡ min x y) (ei : i ≡ max x y)
-      (ep : p ≡ largerOf larger n l) (eq : q ≡ largerOf larger n r) where
-    left-name : x ≡ least L′
-    left-name = ex ∙ adds-name l (adds-children .0)
+    is-larger : i ≡ I
+    is-larger = ei ∙ ap₂ max (ex ∙ left .name) (ey ∙ right .name)
 
-    right-name : y ≡ least R′
-    right-name = ey ∙ adds-name r (adds-children .1)
+    is-key : k ≡ K
+    is-key = ek ∙ ap₂ min is-larger (ew ∙ ap₂ min (eu ∙ left .key) (ev ∙ right .key))
 
-    smaller : a ≡ min (least L′) (least R′)
-    smaller = ea ∙ ap₂ min left-name right-name
-
-    larger′ : i ≡ max (least L′) (least R′)
-    larger′ = ei ∙ ap₂ max left-name right-name
-
-    left-top : p ≡ top L′
-    left-top = ep ∙ adds-larger l (adds-children .0)
-
-    right-top : q ≡ top R′
-    right-top = eq ∙ adds-larger r (adds-children .1)
-
-    pub adds-room : (a < 1024) × (i < 1024) × (i < length small) × (i < length waits) × (i < length up) × (p < length up) × (q < length up)
+    pub adds-room : (a < 1024) × (i < 1024) × (k < 1024) × (i < length small) × (i < length next) × (k < length last)
     adds-room =
-        omega (arith, smaller, larger′, left-top, right-top, I-below, left-below, right-below, B .few, B .small-room, B .waits-room, B .up-room)
+        let s : S < 1024 = omega (arith, I-below, B .few) in
+        rw (is-smaller, is-larger, is-key) (
+          s,
+          omega (arith, I-below, B .few),
+          parts-bounded K K-has,
+          omega (arith, I-below, B .small-room),
+          omega (arith, I-below, B .next-room),
+          omega (arith, K-below, B .last-room),
+        )
 
-    pub built-next : {v w : ℕ} → v ≡ innerOf n l → w ≡ innerOf n r
-        → Built n (rs ++ ((l, r, n + t) ∷ [])) (set names t a) (set larger t i) (set small i a) (set (set (set up p i) q i) i 0) (set waits i (v + w))
-    built-next {v} {w} ev ew =
-        let z : v + w ≡ inner L′ + inner R′ = ap₂ (λ (m k : ℕ). m + k) (ev ∙ adds-inner l (adds-children .0)) (ew ∙ adds-inner r (adds-children .1)) in
-        rw (smaller, larger′, left-top, right-top, z) built′
+    pub adds-last : {j : ℕ} → j ≡ cell last k → j < length next
+    adds-last {j} e = let z : j ≡ J = e ∙ ap (cell last) is-key in omega (arith, J-below, B .next-room)
 
-pub inner-le : (n k : ℕ) → innerOf n k ≤ 1
-unfolding innerOf
-inner-le n k = go (ltb k n)
-  where
-    go : (b : Bool) → cond b 0 1 ≤ 1
-    go true = omega arith
-    go false = omega arith
+    pub built-next : {j : ℕ} → j ≡ cell last k → Built n (rs ++ ((l, r, p) ∷ [])) (set names p a) (set lows p k) (set small i a) (set (set next i 0) j i) (set last k i)
+    built-next {j} e = let z : j ≡ J = e ∙ ap (cell last) is-key in rw (is-smaller, is-larger, z, is-key) built′

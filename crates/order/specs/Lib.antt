@@ -1,5 +1,6 @@
-pub mod Climb
-pub mod Rank
+pub mod Walk
+pub mod Chain
 pub mod Entries
+pub mod Entered
 pub mod Vector
 pub mod Built

@@ -1,37 +1,107 @@
--- The vector of a tree from its arrays.
--- Main definitions: given. Main results: sequenced-listed, vector-is.
-use mathlib.Core.Path.{_≡_, refl, sym, ap, ap₂, _∙_}
-use mathlib.Core.List.{List, _++_}
+-- The vector of a tree from its chains.
+-- Main definitions: Drawn, given, Filled. Main results: planned, vector-is, filled-start, filled-next, filled-end.
+use mathlib.Core.Path.{_≡_, refl, sym, ap, ap₂, _∙_, subst}
+use mathlib.Core.Bool.{true}
+use mathlib.Core.List.{List, [], _∷_, _++_}
 use Prim.Native.Nat.{ℕ, _+_, _-_, _≤_, _<_}
 use native.Mathlib.Omega.{arith}
-use lib.ListN.{length, take, drop}
+use lib.ListN.{length, drop, set, replicate}
+use borrow.Author.Tests.{ltb-true, lt-ltb}
 use Rattle.rules.specs.Building.{Merge}
-use Rattle.rules.specs.Tree.{Tree, size}
+use Rattle.rules.specs.Tree.{Tree, has, least, size, LeavesBelow}
 use Rattle.rules.specs.Order.{order, entryAt, listed, vectorOf}
+use Rattle.rows.specs.Larger.{Pair, pair-has, pair-of, least-le}
 use Rattle.rows.specs.Count.{size-below}
-use Rattle.order.specs.Climb.{cell, Given, Drawn, mergesOf, Sequenced}
-use Rattle.order.specs.Entries.{Listed}
+use Rattle.rows.specs.Chains.{chain, falling, mergesOf, Smaller, In, Apart, Bounded, chain-starts, chain-none, falling-in, in-falling}
+use Rattle.rows.specs.Falls.{order-falls, falling-apart}
+use Rattle.order.specs.Walk.{cell, Held}
+use Rattle.order.specs.Chain.{chain-short, falling-high, smaller-less}
+use Rattle.order.specs.Entered.{Given, Planned, Holding, Keyed, entered-start, entered-end}
 
--- a tree of n leaves with the smaller names that an array holds
-abbrev pub given : ℕ → List ℕ → Tree → Given
-given n small t = record { leaves = n; small = cell small; tree = t }
+-- the arrays of a tree whose leaves are 0 to n-1: the smaller name of each pair by its larger name, and the chains
+pub record Drawn (n : ℕ) (t : Tree) (small next last : List ℕ) : Type 0 where
+  pub below : LeavesBelow n t
+  pub smaller : Smaller (cell small) t
+  pub held : (k : ℕ) → k < n → Held (cell next) (cell last) k (chain 1024 t k)
+  pub some-leaf : 1 ≤ n
+  pub few : n ≤ 1024
+  pub small-room : n ≤ length small
+  pub next-room : n ≤ length next
+  pub last-room : n ≤ length last
 
--- the larger names of a tree's merges are those of its leaves
-pub sequenced-listed : {n : ℕ} {small up waits seq : List ℕ} {t : Tree} → Drawn (given n small t) up waits → Sequenced (given n small t) seq
-    → n ≤ length small → n ≤ length seq + 1 → Listed n small seq
-sequenced-listed D S h l = record {
-  names = S .names;
-  every = S .every;
-  some-leaf = D .some-leaf;
-  few = D .few;
-  small-room = h;
-  seq-room = l;
-}
+-- what the vector of a tree is made from
+abbrev pub given : ℕ → List ℕ → Tree → List ℕ → Given
+given n small t old = record { leaves = n; small = small; chains = chain 1024 t; old = old }
 
--- the entries of the merges in their order are the tree's vector
-pub vector-is : {n : ℕ} (small : List ℕ) {up waits seq : List ℕ} {t : Tree} (old : List ℕ) → Drawn (given n small t) up waits → Sequenced (given n small t) seq
-    → listed n (entryAt (mergesOf (cell small) (take (n - 1) seq))) ++ drop n old ≡ vectorOf t ++ drop n old
-unfolding vectorOf
-vector-is {n} small {up} {waits} {seq} {t} old D S =
-    ap (λ (l : List ℕ). l ++ drop n old)
-    (ap₂ (λ (k : ℕ) (ms : List Merge). listed k (entryAt ms)) (sym (size-below n t (D .below))) (sym (S .in-order)))
+module _ {n : ℕ} {t : Tree} {small next last : List ℕ} (D : Drawn n t small next last) where
+  inside : (x : ℕ) → has t x ≡ true → x < n
+  inside x e = ltb-true x n (sym (D .below .all x) ∙ e)
+
+  bounded : Bounded 1024 t
+  bounded x e = omega (arith, inside x e, D .few)
+
+  -- every key is a leaf
+  all-keys : falling (chain 1024 t) 1024 ≡ falling (chain 1024 t) n
+  all-keys = falling-high (chain 1024 t) n 1024 (λ k h. chain-none 1024 t k (D .below .once) bounded (λ p. omega (arith, inside k (pair-has t k p)))) (D .few)
+
+  -- every leaf but 0 is a larger name
+  pair-there : (x : ℕ) → 1 ≤ x → x < n → Pair t x
+  pair-there x a b =
+      let z = least-le t 0 (D .below .all 0 ∙ lt-ltb 0 n (omega arith)) in
+      pair-of t x (D .below .all x ∙ lt-ltb x n b) (omega arith)
+
+  pub planned : (old : List ℕ) → n ≤ length old → Planned (given n small t old)
+  planned old h = record {
+    some-leaf = D .some-leaf;
+    few = D .few;
+    small-room = D .small-room;
+    out-room = h;
+    starts = λ k. chain-starts 1024 t k (D .below .once) bounded;
+    short = λ k. omega (arith, chain-short 1024 t k, size-below n t (D .below), D .few);
+    named = λ x i. let p = in-falling 1024 t x (rw (sym all-keys) at i) in (smaller-less (cell small) t x (D .below .once) (D .smaller) p, inside x (pair-has t x p));
+    apart = subst Apart all-keys (falling-apart 1024 t (D .below .once) bounded);
+    every = λ x a b. subst (In x) all-keys (falling-in 1024 t x bounded (pair-there x a b));
+  }
+
+  pub holding : (old : List ℕ) → Holding (given n small t old) next last
+  holding old = record { held = D .held; next-there = D .next-room; last-there = D .last-room }
+
+  -- the entries of the merges in their order are the tree's vector
+  pub vector-is : (old : List ℕ) → listed n (entryAt (mergesOf (cell small) (falling (chain 1024 t) n))) ++ drop n old ≡ vectorOf t ++ drop n old
+  unfolding vectorOf
+  vector-is old =
+      ap (λ (l : List ℕ). l ++ drop n old)
+      (ap₂ (λ (k : ℕ) (ms : List Merge). listed k (entryAt ms)) (sym (size-below n t (D .below)))
+      (ap (mergesOf (cell small)) (sym all-keys) ∙ sym (order-falls 1024 t (cell small) (D .below .once) bounded (D .smaller))))
+
+-- whatever tree the arrays draw, the chains of all keys from k on have their entries
+pub record Filled (n : ℕ) (small next last out₀ blocks names out : List ℕ) (keys k : ℕ) : Type 0 where
+  pub low : 1 ≤ k
+  pub of-out : length out ≡ length out₀
+  pub each : (t : Tree) → Drawn n t small next last → Keyed (given n small t out₀) small next last k keys blocks names out
+
+pub filled-start : {n : ℕ} {small next last out : List ℕ} → 1 ≤ n → n ≤ length out → Filled n small next last out (replicate 16 0) (replicate 1024 0) out 0 n
+filled-start {out = out} h l = record { low = h; of-out = refl; each = λ t D. record { entered = entered-start (planned D out l); holding = holding D out; smalls = refl } }
+
+module _ {n : ℕ} {small next last out₀ blocks names out : List ℕ} {keys k : ℕ} (F : Filled n small next last out₀ blocks names out keys k) where
+  pub filled-long : (t : Tree) × Drawn n t small next last → (length blocks ≡ 16) × (length names ≡ 1024)
+  filled-long D = let R = F .each (D .0) (D .1) .entered .ranked in (R .blocks-long, R .names-long)
+
+  -- the next key
+  each-key : 1 < k → (t : Tree) → Drawn n t small next last → Keyed (given n small t out₀) small next last (k - 1 + 1) keys blocks names out
+  each-key h t D =
+      let e : k - 1 + 1 ≡ k = omega arith in
+      rw e (F .each t D)
+
+  pub some-key : 1 < k → (t : Tree) × Drawn n t small next last → (g : Given) × Keyed g small next last (k - 1 + 1) keys blocks names out
+  some-key h D = (given n small (D .0) out₀, each-key h (D .0) (D .1))
+
+  pub filled-next : {keys′ : ℕ} {blocks′ names′ out′ : List ℕ} → 1 < k
+      → ((g : Given) → Keyed g small next last (k - 1 + 1) keys blocks names out → Keyed g small next last (k - 1) keys′ blocks′ names′ out′) → length out′ ≡ length out
+      → Filled n small next last out₀ blocks′ names′ out′ keys′ (k - 1)
+  filled-next h f l = record { low = omega arith; of-out = l ∙ F .of-out; each = λ t D. f (given n small t out₀) (each-key h t D) }
+
+  pub filled-end : k ≤ 1 → (t : Tree) → Drawn n t small next last → set out 0 0 ≡ vectorOf t ++ drop n out₀
+  filled-end h t D =
+      let e : k ≡ 1 = omega (arith, F .low) in
+      entered-end (subst (λ (x : ℕ). Keyed (given n small t out₀) small next last x keys blocks names out) e (F .each t D) .entered) ∙ vector-is D out₀

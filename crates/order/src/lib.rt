@@ -1,23 +1,22 @@
 // From the rows of a tree to its vector.
 //
-// Each inner node is the pair of exactly one larger name i. Arrays by larger name: small[i] is the smaller name of the pair, up[i] the
-// larger name of the pair that the merged cluster goes into next (0 for the root), waits[i] how many of the pair's two children are
-// inner nodes that are not merged yet.
+// A pair is named by its larger name, and its key is the least larger name of the pairs in its subtree. Pairs merge by falling key, and
+// those of one key from the bottom up: they are a chain, whose first name is the key. Arrays by larger name: small[i] is the smaller name
+// of the pair, next[i] the next pair of its chain (0 at the end), last[k] the last pair of the chain of key k (0 where there is none).
 
 ghost use mathlib.Core.Path.{_≡_};
 ghost use mathlib.Core.List.{List, [], _∷_, _++_};
-ghost use Prim.Native.Nat.{ℕ, _+_, _-_, _/_, _<_, _≤_, min, max};
-ghost use lib.Dec.{ltb};
-ghost use lib.ListN.{length, take, drop};
-ghost use Rattle.rules.specs.Order.{entryFrom, entryAt, listed, vectorOf};
+ghost use Prim.Native.Nat.{ℕ, _+_, _-_, _<_, _≤_, min, max};
+ghost use lib.ListN.{length, drop};
+ghost use Rattle.rules.specs.Order.{vectorOf};
 ghost use Rattle.rules.specs.Tree.{Tree};
 ghost use Rattle.rules.specs.Table.{Row};
-ghost use Rattle.rows.specs.Count.{bit};
-ghost use Rattle.order.specs.Climb.{cell, Given, Drawn, Sequenced, Scans, Climbs, stops, mergesOf};
-ghost use Rattle.order.specs.Rank.{member, below, Counted, MoreAbove, Steps};
-ghost use Rattle.order.specs.Entries.{Listed};
-ghost use Rattle.order.specs.Vector.{given};
-ghost use Rattle.order.specs.Built.{nameOf, largerOf, innerOf, Built, Adds};
+ghost use Rattle.rows.specs.Chains.{falling};
+ghost use Rattle.ranks.specs.Steps.{Steps};
+ghost use Rattle.order.specs.Walk.{cell};
+ghost use Rattle.order.specs.Entered.{Given, Headed, Entered, Keyed};
+ghost use Rattle.order.specs.Vector.{Drawn};
+ghost use Rattle.order.specs.Built.{Built, Adds};
 
 fn wide(x: u16) -> usize
     ensures { λ r. ⌜ r ≡ x ⌝ }
@@ -25,195 +24,96 @@ fn wide(x: u16) -> usize
     x as usize
 }
 
-// One less, and 0 for 0.
-fn one_less(x: u8) -> u8
-    ensures { λ r. ⌜ r ≡ x - 1 ⌝ }
+// The entries of the names behind the key k in its chain. keys counts the keys from k on; out[j] has how many of them are above j.
+// The merges before j of names below it are those of the keys between k and j, and those of the set, which are no keys.
+fn follow(
+    next: &[u16],
+    blocks: &mut [u16],
+    names: &mut [u8],
+    block_steps: &[u16],
+    name_steps: &[u8],
+    out: &mut [u16],
+    k: usize,
+    keys: usize,
+)
+    requires { ⌜ ((g : Given) × Headed g k keys (now next) (now blocks) (now names) (now out) (cell (now next) k)) ⌝ }
+    requires { ⌜ Steps 16 (now «block_steps») × Steps 64 (now «name_steps») ⌝ }
+    ensures { λ r. ⌜ ((g : Given) → Headed g k keys (now (next .entry)) (now (blocks .entry)) (now (names .entry)) (now (out .entry)) (cell (now (next .entry)) k) → Entered g k keys (falling (g .chains) k) (now (blocks .exit)) (now (names .exit)) (now (out .exit))) ⌝ }
 {
-    if x == 0 {
-        return 0;
-    }
-    x - 1
-}
-
-// Whether the climb from i stops at p, which still waits for w children.
-fn stops_at(p: usize, i: usize, w: u8) -> bool
-    ensures { λ r. ⌜ r ≡ stops p i w ⌝ }
-{
-    p < i || 0 < w
-}
-
-// Merges the complete pair of i, and each pair above i that this completes.
-fn climb_from(up: &[u16], waits: &mut [u8], sequence: &mut [u16], i: usize, k: usize) -> usize
-    requires { ⌜ ((g : Given) × Climbs g (now up) (now waits) (now sequence) i i k) ⌝ }
-    ensures { λ r. ⌜ ((g : Given) → Climbs g (now (up .entry)) (now (waits .entry)) (now (sequence .entry)) i i k → Scans g (now (up .entry)) (now (waits .exit)) (now (sequence .exit)) i r) ⌝ }
-{
-    let mut j = i;
-    let mut e = k;
-    loop {
-        sequence[e] = j as u16;
-        e += 1;
-        let p = wide(up[j]);
-        let w = one_less(waits[p]);
-        waits[p] = w;
-        if stops_at(p, i, w) {
-            break;
-        }
-        j = p;
-    }
-    e
-}
-
-// Looks at the pair of i: where it is complete it is merged. Where not, a climb meets it later.
-fn climb_at(up: &[u16], waits: &mut [u8], sequence: &mut [u16], i: usize, k: usize) -> usize
-    requires { ⌜ 1 ≤ i ⌝ }
-    requires { ⌜ ((g : Given) × Scans g (now up) (now waits) (now sequence) (i + 1) k) ⌝ }
-    ensures { λ r. ⌜ ((g : Given) → Scans g (now (up .entry)) (now (waits .entry)) (now (sequence .entry)) (i + 1) k → Scans g (now (up .entry)) (now (waits .exit)) (now (sequence .exit)) i r) ⌝ }
-{
-    if 0 < waits[i] {
-        return k;
-    }
-    climb_from(up, waits, sequence, i, k)
-}
-
-// The larger names of a tree's merges, in their order: of the complete pairs the one with the greatest larger name comes first.
-fn climb(n: usize, up: &[u16], waits: &mut [u8], sequence: &mut [u16])
-    requires { ⌜ ((g : Given) × (g .leaves ≡ n) × Drawn g (now up) (now waits)) ⌝ }
-    requires { ⌜ n ≤ length (now sequence) + 1 ⌝ }
-    ensures { λ r. ⌜ ((g : Given) → g .leaves ≡ n → Drawn g (now (up .entry)) (now (waits .entry)) → Sequenced g (now (sequence .exit))) ⌝ }
-{
-    let mut i = n;
-    let mut k: usize = 0;
-    while 1 < i {
-        i -= 1;
-        k = climb_at(up, waits, sequence, i, k);
+    let mut j = wide(next[k]);
+    while j != 0 {
+        let s = keys + ranks::rank(blocks, names, j) - wide(out[j]);
+        out[j] = (j - 1 + s) as u16;
+        ranks::insert(blocks, names, block_steps, name_steps, j);
+        j = wide(next[j]);
     }
 }
 
-// How many members of the set are below i. counts has for each word how many stand in the words below it.
-fn rank(words: &[u64], counts: &[u16], i: usize) -> usize
-    requires { ⌜ Counted (now words) (now counts) ⌝ }
-    requires { ⌜ i < 1024 ⌝ }
-    ensures { λ r. ⌜ r ≡ below (now (words .entry)) i ⌝ }
+// The entries of the chain of key k, where there is one: no merge before that of the key is of names below it. How many keys there are now.
+fn enter_key(
+    small: &[u16],
+    next: &[u16],
+    last: &[u16],
+    blocks: &mut [u16],
+    names: &mut [u8],
+    block_steps: &[u16],
+    name_steps: &[u8],
+    out: &mut [u16],
+    k: usize,
+    keys: usize,
+) -> usize
+    requires { ⌜ ((g : Given) × Keyed g (now small) (now next) (now last) (k + 1) keys (now blocks) (now names) (now out)) ⌝ }
+    requires { ⌜ Steps 16 (now «block_steps») × Steps 64 (now «name_steps») ⌝ }
+    ensures { λ r. ⌜ ((g : Given) → Keyed g (now (small .entry)) (now (next .entry)) (now (last .entry)) (k + 1) keys (now (blocks .entry)) (now (names .entry)) (now (out .entry)) → Keyed g (now (small .entry)) (now (next .entry)) (now (last .entry)) k r (now (blocks .exit)) (now (names .exit)) (now (out .exit))) ⌝ }
 {
-    let w = i / 64;
-    wide(counts[w]) + u64::count_ones(words[w] & ((1u64 << (i % 64)) - 1)) as usize
-}
-
-// Sixteen times 0 and then sixteen times 1.
-fn raise(steps: &mut [u16])
-    requires { ⌜ length (now steps) ≡ 32 ⌝ }
-    requires { ⌜ ((k : ℕ) → k < 16 → cell (now steps) k ≡ 0) ⌝ }
-    ensures { λ r. ⌜ Steps (now (steps .exit)) ⌝ }
-{
-    let mut k: usize = 16;
-    while k < 32 {
-        steps[k] = 1;
-        k += 1;
+    if last[k] == 0 {
+        out[k] = keys as u16;
+        return keys;
     }
+    out[k] = small[k];
+    follow(
+        next,
+        blocks,
+        names,
+        block_steps,
+        name_steps,
+        out,
+        k,
+        keys + 1,
+    );
+    keys + 1
 }
 
-// One member more in word w: it counts for every word above. No test for each word: the steps from 15 - w on are added.
-fn count_above(counts: &mut [u16], steps: &[u16], w: usize)
-    requires { ⌜ (length (now counts) ≡ 16) × (w < 16) ⌝ }
-    requires { ⌜ ((b : ℕ) → b < 16 → cell (now counts) b ≤ 1024) ⌝ }
-    requires { ⌜ Steps (now steps) ⌝ }
-    ensures { λ r. ⌜ MoreAbove w (now (counts .entry)) (now (counts .exit)) ⌝ }
-{
-    let from = 15 - w;
-    let mut b: usize = 0;
-    while b < 16 {
-        counts[b] += steps[from + b];
-        b += 1;
-    }
-}
-
-// Puts i into the set.
-fn insert(words: &mut [u64], counts: &mut [u16], steps: &[u16], i: usize)
-    requires { ⌜ Counted (now words) (now counts) ⌝ }
-    requires { ⌜ (i < 1024) × (member (now words) i ≡ 0) ⌝ }
-    requires { ⌜ Steps (now steps) ⌝ }
-    ensures { λ r. ⌜ Counted (now (words .exit)) (now (counts .exit)) ⌝ }
-    ensures { λ r. ⌜ ((x : ℕ) → below (now (words .exit)) x ≡ below (now (words .entry)) x + bit (ltb i x)) ⌝ }
-{
-    let w = i / 64;
-    words[w] = words[w] | (1u64 << (i % 64));
-    count_above(counts, steps, w);
-}
-
-// v(i): the smaller name a where no larger name below i was merged before, else i - 1 + s.
-fn entry_from(i: usize, a: u16, s: usize) -> u16
-    requires { ⌜ (1 ≤ i) × (i < 1024) × (s ≤ i) ⌝ }
-    ensures { λ r. ⌜ r ≡ entryFrom i a s ⌝ }
-{
-    if s == 0 {
-        return a;
-    }
-    (i - 1 + s) as u16
-}
-
-// The entries of the vector, from the larger names of the merges in their order.
-fn entries(n: usize, sequence: &[u16], small: &[u16], out: &mut [u16])
-    requires { ⌜ Listed n (now small) (now sequence) ⌝ }
+/// The vector of a tree from its arrays: the first n elements of out; the rest stays.
+pub fn vector_of(n: usize, small: &[u16], next: &[u16], last: &[u16], out: &mut [u16])
+    requires { ⌜ ((t : Tree) × Drawn n t (now small) (now next) (now last)) ⌝ }
     requires { ⌜ n ≤ length (now out) ⌝ }
-    ensures { λ r. ⌜ now (out .exit) ≡ listed n (entryAt (mergesOf (cell (now (small .entry))) (take (n - 1) (now (sequence .entry))))) ++ drop n (now (out .entry)) ⌝ }
+    ensures { λ r. ⌜ ((t : Tree) → Drawn n t (now (small .entry)) (now (next .entry)) (now (last .entry)) → now (out .exit) ≡ vectorOf t ++ drop n (now (out .entry))) ⌝ }
 {
-    let mut words = [0u64; 16];
-    let mut counts = [0u16; 16];
-    let mut steps = [0u16; 32];
-    raise(&mut steps);
-    let m = n - 1;
-    let mut k: usize = 0;
-    while k < m {
-        let i = wide(sequence[k]);
-        let s = rank(&words, &counts, i);
-        out[i] = entry_from(i, small[i], s);
-        insert(&mut words, &mut counts, &steps, i);
-        k += 1;
+    let mut blocks = [0u16; 16];
+    let mut names = [0u8; 1024];
+    let mut block_steps = [0u16; 32];
+    let mut name_steps = [0u8; 128];
+    ranks::raise_blocks(&mut block_steps);
+    ranks::raise_names(&mut name_steps);
+    let mut keys: usize = 0;
+    let mut k = n;
+    while 1 < k {
+        k -= 1;
+        keys = enter_key(
+            small,
+            next,
+            last,
+            &mut blocks,
+            &mut names,
+            &block_steps,
+            &name_steps,
+            out,
+            k,
+            keys,
+        );
     }
     out[0] = 0;
-}
-
-/// The vector of a tree from its arrays: the first n elements of out; the rest stays. waits is used up.
-pub fn vector_of(n: usize, up: &[u16], waits: &mut [u8], small: &[u16], out: &mut [u16])
-    requires { ⌜ ((t : Tree) × Drawn (given n (now small) t) (now up) (now waits)) ⌝ }
-    requires { ⌜ (n ≤ length (now small)) × (n ≤ length (now out)) ⌝ }
-    ensures { λ r. ⌜ ((t : Tree) → Drawn (given n (now (small .entry)) t) (now (up .entry)) (now (waits .entry)) → now (out .exit) ≡ vectorOf t ++ drop n (now (out .entry))) ⌝ }
-{
-    let mut sequence = [0u16; 1024];
-    climb(n, up, waits, &mut sequence);
-    entries(n, &sequence, small, out);
-}
-
-// The name of node k: a leaf's is itself.
-fn name_of(names: &[u16], n: usize, k: usize) -> usize
-    requires { ⌜ k < n + length (now names) ⌝ }
-    ensures { λ r. ⌜ r ≡ nameOf (now (names .entry)) n k ⌝ }
-{
-    if k < n {
-        return k;
-    }
-    wide(names[k - n])
-}
-
-// The larger name of node k's pair. A leaf has no pair: 0, which is never a larger name.
-fn larger_of(larger: &[u16], n: usize, k: usize) -> usize
-    requires { ⌜ k < n + length (now larger) ⌝ }
-    ensures { λ r. ⌜ r ≡ largerOf (now (larger .entry)) n k ⌝ }
-{
-    if k < n {
-        return 0;
-    }
-    wide(larger[k - n])
-}
-
-// 1 where node k is an inner node.
-fn inner_of(n: usize, k: usize) -> u8
-    ensures { λ r. ⌜ r ≡ innerOf n k ⌝ }
-{
-    if k < n {
-        return 0;
-    }
-    1
 }
 
 fn lesser(x: usize, y: usize) -> usize
@@ -234,32 +134,31 @@ fn greater(x: usize, y: usize) -> usize
     x
 }
 
-/// Adds row t with the children l and r to the arrays. names and larger have the name and the larger name of each inner node.
+/// Adds the row of node p with the children l and r to the arrays. names and lows have the name and the key of each node; a leaf has
+/// no pair, and its key is 1024. The pair goes to the end of its key's chain; next[0] belongs to no pair.
 pub fn add_pair(
     names: &mut [u16],
-    larger: &mut [u16],
+    lows: &mut [u16],
     small: &mut [u16],
-    up: &mut [u16],
-    waits: &mut [u8],
-    n: usize,
-    t: usize,
+    next: &mut [u16],
+    last: &mut [u16],
+    p: usize,
     l: usize,
     r: usize,
 )
-    requires { ⌜ ((rs : List Row) × Adds n rs t l r (now names) (now larger) (now small) (now up) (now waits)) ⌝ }
-    ensures { λ _. ⌜ ((rs : List Row) → Adds n rs t l r (now (names .entry)) (now (larger .entry)) (now (small .entry)) (now (up .entry)) (now (waits .entry)) → Built n (rs ++ ((l, r, n + t) ∷ [])) (now (names .exit)) (now (larger .exit)) (now (small .exit)) (now (up .exit)) (now (waits .exit))) ⌝ }
+    requires { ⌜ ((n : ℕ) × (rs : List Row) × Adds n rs p l r (now names) (now lows) (now small) (now next) (now last)) ⌝ }
+    ensures { λ _. ⌜ ((n : ℕ) (rs : List Row) → Adds n rs p l r (now (names .entry)) (now (lows .entry)) (now (small .entry)) (now (next .entry)) (now (last .entry)) → Built n (rs ++ ((l, r, p) ∷ [])) (now (names .exit)) (now (lows .exit)) (now (small .exit)) (now (next .exit)) (now (last .exit))) ⌝ }
 {
-    let x = name_of(names, n, l);
-    let y = name_of(names, n, r);
+    let x = wide(names[l]);
+    let y = wide(names[r]);
     let a = lesser(x, y);
     let i = greater(x, y);
-    let p = larger_of(larger, n, l);
-    let q = larger_of(larger, n, r);
-    up[p] = i as u16;
-    up[q] = i as u16;
-    up[i] = 0;
+    let k = lesser(i, lesser(wide(lows[l]), wide(lows[r])));
+    let j = wide(last[k]);
     small[i] = a as u16;
-    waits[i] = inner_of(n, l) + inner_of(n, r);
-    names[t] = a as u16;
-    larger[t] = i as u16;
+    next[i] = 0;
+    next[j] = i as u16;
+    last[k] = i as u16;
+    names[p] = a as u16;
+    lows[p] = k as u16;
 }

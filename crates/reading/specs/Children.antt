@@ -12,9 +12,8 @@ use lib.Seq.{take-suc, drop-cons, take-all}
 use Rattle.rules.specs.Tree.{Tree}
 use Rattle.rules.specs.Table.{Row, rowFault, tableFault, tableTree}
 use Rattle.rows.specs.Forest.{RowOk, namedIn, fault-append, fault-none, fault-step}
-use Rattle.order.specs.Built.{taken, Built, Adds, built-start, built-end}
-use Rattle.order.specs.Climb.{Drawn}
-use Rattle.order.specs.Vector.{given}
+use Rattle.order.specs.Built.{taken, Built, Adds, built-end}
+use Rattle.order.specs.Vector.{Drawn}
 
 -- the n-1 accepted rows rs have these first and second children
 pub record Children (n : ℕ) (left right : List ℕ) (rs : List Row) : Type 0 where
@@ -44,47 +43,46 @@ row-ok n rs t e h =
     fault-none n t (taken (take t rs)) (getD rs t (0, 0, 0)) (drop (suc t) rs) q .0
 
 -- t rows are added, whatever rows have these children
-pub record Added (n : ℕ) (left right : List ℕ) (t : ℕ) (names larger small up waits : List ℕ) : Type 0 where
+pub record Added (n : ℕ) (left right : List ℕ) (t : ℕ) (names lows small next last : List ℕ) : Type 0 where
   pub so-far : t ≤ n - 1
   pub few : n ≤ 1024
   pub left-room : n - 1 ≤ length left
   pub right-room : n - 1 ≤ length right
   pub some-rows : (rs : List Row) × Children n left right rs
-  pub built : (rs : List Row) → Children n left right rs → Built n (take t rs) names larger small up waits
+  pub built : (rs : List Row) → Children n left right rs → Built n (take t rs) names lows small next last
 
-pub added-start : {n : ℕ} {left right names larger small up waits : List ℕ} → n ≤ 1024 → n - 1 ≤ length left → n - 1 ≤ length right
-    → (rs : List Row) × Children n left right rs → length names ≡ 1024 → length larger ≡ 1024 → length small ≡ 1024 → length up ≡ 1024 → length waits ≡ 1024
-    → Added n left right 0 names larger small up waits
-added-start h l r s a b c d e = record {
+pub added-start : {n : ℕ} {left right names lows small next last : List ℕ} → n ≤ 1024 → n - 1 ≤ length left → n - 1 ≤ length right
+    → (rs : List Row) × Children n left right rs → Built n [] names lows small next last → Added n left right 0 names lows small next last
+added-start h l r s B = record {
   so-far = omega arith;
   few = h;
   left-room = l;
   right-room = r;
   some-rows = s;
-  built = λ rs C. built-start h (omega arith) (omega arith) (omega arith) (omega arith) (omega arith);
+  built = λ rs C. B;
 }
 
 -- row t, with the children that stand at t, can be added
-adds : {n : ℕ} {left right : List ℕ} {t : ℕ} {names larger small up waits : List ℕ} → Added n left right t names larger small up waits → t < n - 1
-    → (rs : List Row) → Children n left right rs → Adds n (take t rs) t (getD left t 0) (getD right t 0) names larger small up waits
+adds : {n : ℕ} {left right : List ℕ} {t : ℕ} {names lows small next last : List ℕ} → Added n left right t names lows small next last → t < n - 1
+    → (rs : List Row) → Children n left right rs → Adds n (take t rs) (n + t) (getD left t 0) (getD right t 0) names lows small next last
 adds {n} {left} {right} {t} A h rs C =
     let c = C .count in
     let l : length (take t rs) ≡ t = omega (arith, length-take t rs) in
     record {
       built = A .built rs C;
-      count = l;
+      count = ap (λ (k : ℕ). n + k) (sym l);
       row = rw l (subst (RowOk n t (taken (take t rs))) (C .each t h) (row-ok n rs t (C .accepted) (omega arith)));
     }
 
-pub some-adds : {n : ℕ} {left right : List ℕ} {t l r : ℕ} {names larger small up waits : List ℕ} → Added n left right t names larger small up waits → t < n - 1
-    → l ≡ getD left t 0 → r ≡ getD right t 0 → (rs : List Row) × Adds n rs t l r names larger small up waits
-some-adds {t = t} A h p q = rw (p, q) (take t (A .some-rows .0), adds A h (A .some-rows .0) (A .some-rows .1))
+pub some-adds : {n : ℕ} {left right : List ℕ} {t l r : ℕ} {names lows small next last : List ℕ} → Added n left right t names lows small next last → t < n - 1
+    → l ≡ getD left t 0 → r ≡ getD right t 0 → (m : ℕ) × (rs : List Row) × Adds m rs (n + t) l r names lows small next last
+some-adds {n} {t = t} A h p q = rw (p, q) (n, take t (A .some-rows .0), adds A h (A .some-rows .0) (A .some-rows .1))
 
-pub added-next : {n : ℕ} {left right : List ℕ} {t l r : ℕ} {names larger small up waits names′ larger′ small′ up′ waits′ : List ℕ}
-    → Added n left right t names larger small up waits → t < n - 1 → l ≡ getD left t 0 → r ≡ getD right t 0
-    → ((rs : List Row) → Adds n rs t l r names larger small up waits → Built n (rs ++ ((l, r, n + t) ∷ [])) names′ larger′ small′ up′ waits′)
-    → Added n left right (t + 1) names′ larger′ small′ up′ waits′
-added-next {n} {left} {right} {t} {l} {r} {names} {larger} {small} {up} {waits} {names′ = a} {larger′ = b} {small′ = c} {up′ = d} {waits′ = e} A h p q f = record {
+pub added-next : {n : ℕ} {left right : List ℕ} {t l r : ℕ} {names lows small next last names′ lows′ small′ next′ last′ : List ℕ}
+    → Added n left right t names lows small next last → t < n - 1 → l ≡ getD left t 0 → r ≡ getD right t 0
+    → ((m : ℕ) (rs : List Row) → Adds m rs (n + t) l r names lows small next last → Built m (rs ++ ((l, r, n + t) ∷ [])) names′ lows′ small′ next′ last′)
+    → Added n left right (t + 1) names′ lows′ small′ next′ last′
+added-next {n} {left} {right} {t} {l} {r} {names} {lows} {small} {next} {last} {names′ = a} {lows′ = b} {small′ = c} {next′ = d} {last′ = e} A h p q f = record {
   so-far = omega arith;
   few = A .few;
   left-room = A .left-room;
@@ -92,32 +90,29 @@ added-next {n} {left} {right} {t} {l} {r} {names} {larger} {small} {up} {waits} 
   some-rows = A .some-rows;
   built = λ rs C.
       let k = C .count in
-      let ads : Adds n (take t rs) t l r names larger small up waits = rw (p, q) (adds A h rs C) in
+      let ads : Adds n (take t rs) (n + t) l r names lows small next last = rw (p, q) (adds A h rs C) in
       let row : getD rs t (0, 0, 0) ≡ (l, r, n + t) = C .each t h ∙ (λ i. (sym p i, sym q i, n + t)) in
       let more : take t rs ++ ((l, r, n + t) ∷ []) ≡ take (t + 1) rs =
       ap (λ (x : Row). take t rs ++ (x ∷ [])) (sym row) ∙ sym (take-suc rs t (0, 0, 0) (omega arith)) ∙ ap (λ (j : ℕ). take j rs) (sym (add-one t)) in
-      subst (λ (qs : List Row). Built n qs a b c d e) more (f (take t rs) ads);
+      subst (λ (qs : List Row). Built n qs a b c d e) more (f n (take t rs) ads);
 }
 
 -- all rows are added: the arrays draw the tree
-pub added-end : {n : ℕ} {left right : List ℕ} {t : ℕ} {names larger small up waits : List ℕ} → Added n left right t names larger small up waits → n - 1 ≤ t → 1 ≤ n
-    → (rs : List Row) → Children n left right rs → Drawn (given n small (tableTree n rs)) up waits
-added-end {n} {t = t} {names} {larger} {small} {up} {waits} A h l rs C =
+pub added-end : {n : ℕ} {left right : List ℕ} {t : ℕ} {names lows small next last : List ℕ} → Added n left right t names lows small next last → n - 1 ≤ t → 1 ≤ n
+    → (rs : List Row) → Children n left right rs → Drawn n (tableTree n rs) small next last
+added-end {n} {t = t} {names} {lows} {small} {next} {last} A h l rs C =
     let c = C .count in
     let s = A .so-far in
     let e : take t rs ≡ rs = take-all t rs (omega arith) in
-    built-end (subst (λ (qs : List Row). Built n qs names larger small up waits) e (A .built rs C)) c l
+    built-end (subst (λ (qs : List Row). Built n qs names lows small next last) e (A .built rs C)) c l
 
-pub some-tree : {n : ℕ} {left right : List ℕ} {t : ℕ} {names larger small up waits : List ℕ} → Added n left right t names larger small up waits → n - 1 ≤ t → 1 ≤ n
-    → (u : Tree) × Drawn (given n small u) up waits
+pub some-tree : {n : ℕ} {left right : List ℕ} {t : ℕ} {names lows small next last : List ℕ} → Added n left right t names lows small next last → n - 1 ≤ t → 1 ≤ n
+    → (u : Tree) × Drawn n u small next last
 some-tree {n} A h l = (tableTree n (A .some-rows .0), added-end A h l (A .some-rows .0) (A .some-rows .1))
 
-pub added-all : {n : ℕ} {left right : List ℕ} {t : ℕ} {names larger small up waits : List ℕ} → Added n left right t names larger small up waits → n - 1 ≤ t
-    → Added n left right (n - 1) names larger small up waits
-added-all {n} {left} {right} {t} {names} {larger} {small} {up} {waits} A h =
+pub added-all : {n : ℕ} {left right : List ℕ} {t : ℕ} {names lows small next last : List ℕ} → Added n left right t names lows small next last → n - 1 ≤ t
+    → Added n left right (n - 1) names lows small next last
+added-all {n} {left} {right} {t} {names} {lows} {small} {next} {last} A h =
     let s = A .so-far in
     let e : t ≡ n - 1 = omega arith in
-    subst (λ (k : ℕ). Added n left right k names larger small up waits) e A
-
-pub small-there : {n : ℕ} {left right : List ℕ} {t : ℕ} {names larger small up waits : List ℕ} → Added n left right t names larger small up waits → n ≤ length small
-small-there A = A .built (A .some-rows .0) (A .some-rows .1) .small-room
+    subst (λ (k : ℕ). Added n left right k names lows small next last) e A

@@ -1,3 +1,4 @@
+pub mod Leaves
 pub mod RowAt
 pub mod Verdict
 pub mod Reading

@@ -16,12 +16,12 @@ use Rattle.rules.specs.Table.{Row, rowsOf, rowFault, tableFault, tableTree}
 use Rattle.rules.specs.Order.{vectorOf}
 use Rattle.basics.specs.Bools.{or-false}
 use Rattle.rows.specs.Forest.{RowOk, namedIn, namedAlso, named-snoc, fault-append, fault-step}
-use Rattle.order.specs.Built.{taken, Built, Adds, built-start}
+use Rattle.order.specs.Built.{taken, Built, Adds}
 use Rattle.reading.specs.RowAt.{rowAt, rows-count, rows-drop, rows-take}
 use Rattle.reading.specs.Verdict.{flag, verdict, verdict-fault, verdict-row, verdict-cong}
 
 -- t rows are read: accepted, added to the arrays, their children flagged
-pub record Reads (n : ℕ) (xs : List ℕ) (t : ℕ) (named names larger small up waits : List ℕ) : Type 0 where
+pub record Reads (n : ℕ) (xs : List ℕ) (t : ℕ) (named names lows small next last : List ℕ) : Type 0 where
   pub some-leaf : 1 ≤ n
   pub few : n ≤ 1024
   pub count : length xs ≡ 3 * (n - 1)
@@ -29,16 +29,16 @@ pub record Reads (n : ℕ) (xs : List ℕ) (t : ℕ) (named names larger small u
   pub room : length named ≡ 2048
   pub flags : (c : ℕ) → flag named c ≡ taken (take t (rowsOf xs)) c
   pub clean : rowFault n 0 (λ c. false) (take t (rowsOf xs)) ≡ none
-  pub built : Built n (take t (rowsOf xs)) names larger small up waits
+  pub built : Built n (take t (rowsOf xs)) names lows small next last
 
 -- the lists keep their lengths
-pub record Lengths (named₀ names₀ larger₀ small₀ up₀ waits₀ named names larger small up waits : List ℕ) : Type 0 where
+pub record Lengths (named₀ names₀ lows₀ small₀ next₀ last₀ named names lows small next last : List ℕ) : Type 0 where
   pub of-named : length named ≡ length named₀
   pub of-names : length names ≡ length names₀
-  pub of-larger : length larger ≡ length larger₀
+  pub of-lows : length lows ≡ length lows₀
   pub of-small : length small ≡ length small₀
-  pub of-up : length up ≡ length up₀
-  pub of-waits : length waits ≡ length waits₀
+  pub of-next : length next ≡ length next₀
+  pub of-last : length last ≡ length last₀
 
 -- one flag more
 flag-set : (named : List ℕ) (l c : ℕ) → l < length named → flag (set named l 1) c ≡ flag named c || eqb c l
@@ -60,11 +60,10 @@ zeros (suc k) zero = refl
 zeros (suc k) (suc c) = zeros k c
 
 -- no row is read yet
-pub reads-start : {n : ℕ} {xs named names larger small up waits : List ℕ} → 1 ≤ n → n ≤ 1024 → length xs ≡ 3 * (n - 1) → length named ≡ 2048
-    → ((c : ℕ) → getD named c 0 ≡ 0) → length names ≡ 1024 → length larger ≡ 1024 → length small ≡ 1024 → length up ≡ 1024 → length waits ≡ 1024
-    → Reads n xs 0 named names larger small up waits
+pub reads-start : {n : ℕ} {xs named names lows small next last : List ℕ} → 1 ≤ n → n ≤ 1024 → length xs ≡ 3 * (n - 1) → length named ≡ 2048
+    → ((c : ℕ) → getD named c 0 ≡ 0) → Built n [] names lows small next last → Reads n xs 0 named names lows small next last
 unfolding flag namedIn
-reads-start {xs = xs} l h e r z a b c d f = record {
+reads-start {xs = xs} l h e r z B = record {
   some-leaf = l;
   few = h;
   count = e;
@@ -72,7 +71,7 @@ reads-start {xs = xs} l h e r z a b c d f = record {
   room = r;
   flags = λ k. rw (z k);
   clean = unfold rowFault in refl;
-  built = built-start h (omega arith) (omega arith) (omega arith) (omega arith) (omega arith);
+  built = B;
 }
 
 -- how many rows there are, and that t of them are taken
@@ -91,28 +90,28 @@ unfolding rowAt
 row-of n xs t l r p A = λ i. (A .first i, A .second i, A .parent i)
 
 -- the flags say what the rows so far have taken
-verdict-taken : {n : ℕ} {xs : List ℕ} {t : ℕ} (l r p : ℕ) {named names larger small up waits : List ℕ} → Reads n xs t named names larger small up waits
+verdict-taken : {n : ℕ} {xs : List ℕ} {t : ℕ} (l r p : ℕ) {named names lows small next last : List ℕ} → Reads n xs t named names lows small next last
     → verdict (flag named) (n + t) (l, r, p) ≡ verdict (taken (take t (rowsOf xs))) (n + t) (l, r, p)
 verdict-taken {n} {xs} {t} l r p {named} R = verdict-cong (flag named) (taken (take t (rowsOf xs))) (n + t) (l, r, p) (λ c h. R .flags c)
 
 -- a row that is not refused can be added
-pub reads-adds : {n : ℕ} {xs : List ℕ} {t l r p : ℕ} {named names larger small up waits : List ℕ} → Reads n xs t named names larger small up waits
-    → Row-at n xs t l r p → verdict (flag named) (n + t) (l, r, p) ≡ 0 → Adds n (take t (rowsOf xs)) t l r names larger small up waits
+pub reads-adds : {n : ℕ} {xs : List ℕ} {t l r p : ℕ} {named names lows small next last : List ℕ} → Reads n xs t named names lows small next last
+    → Row-at n xs t l r p → verdict (flag named) (n + t) (l, r, p) ≡ 0 → Adds n (take t (rowsOf xs)) (n + t) l r names lows small next last
 reads-adds {n} {xs} {t} {l} {r} {p} R A v =
     let k = rows-read n xs t (R .count) (R .so-far) in
     let ok = verdict-row n t (taken (take t (rowsOf xs))) (l, r, p) (sym (verdict-taken l r p R) ∙ v) in
     record {
       built = R .built;
-      count = k;
+      count = ap (λ (j : ℕ). n + j) (sym k);
       row = rw k (subst (λ (q : ℕ). RowOk n t (taken (take t (rowsOf xs))) (l, r, q)) (ok .parent) ok);
     }
 
 -- a row more is read
-pub reads-next : {n : ℕ} {xs : List ℕ} {t l r p : ℕ} {named names larger small up waits names′ larger′ small′ up′ waits′ : List ℕ}
-    → Reads n xs t named names larger small up waits → Row-at n xs t l r p → verdict (flag named) (n + t) (l, r, p) ≡ 0
-    → Built n (take t (rowsOf xs) ++ ((l, r, n + t) ∷ [])) names′ larger′ small′ up′ waits′
-    → Reads n xs (t + 1) (set (set named l 1) r 1) names′ larger′ small′ up′ waits′
-reads-next {n} {xs} {t} {l} {r} {p} {named} {names′ = a} {larger′ = b} {small′ = c} {up′ = d} {waits′ = e} R A v B =
+pub reads-next : {n : ℕ} {xs : List ℕ} {t l r p : ℕ} {named names lows small next last names′ lows′ small′ next′ last′ : List ℕ}
+    → Reads n xs t named names lows small next last → Row-at n xs t l r p → verdict (flag named) (n + t) (l, r, p) ≡ 0
+    → Built n (take t (rowsOf xs) ++ ((l, r, n + t) ∷ [])) names′ lows′ small′ next′ last′
+    → Reads n xs (t + 1) (set (set named l 1) r 1) names′ lows′ small′ next′ last′
+reads-next {n} {xs} {t} {l} {r} {p} {named} {names′ = a} {lows′ = b} {small′ = c} {next′ = d} {last′ = e} R A v B =
     let named₀ = taken (take t (rowsOf xs)) in
     let ok = verdict-row n t named₀ (l, r, p) (sym (verdict-taken l r p R) ∙ v) in
     let row : rowAt xs t ≡ (l, r, n + t) = row-of n xs t l r p A ∙ ap (λ (q : ℕ). (l, r, q)) (ok .parent) in
@@ -148,7 +147,7 @@ reads-next {n} {xs} {t} {l} {r} {p} {named} {names′ = a} {larger′ = b} {smal
     also c = unfold namedAlso in sym (ap (λ (f : ℕ → Bool). f c) (named-snoc (λ c. false) (take t (rowsOf xs)) (l, r, n + t)))
 
 -- the first row that is refused is the fault of the table
-pub reads-fault : {n : ℕ} {xs : List ℕ} {t l r p : ℕ} {named names larger small up waits : List ℕ} → Reads n xs t named names larger small up waits
+pub reads-fault : {n : ℕ} {xs : List ℕ} {t l r p : ℕ} {named names lows small next last : List ℕ} → Reads n xs t named names lows small next last
     → Row-at n xs t l r p → verdict (flag named) (n + t) (l, r, p) ≢ 0 → tableFault n (rowsOf xs) ≡ some (verdict (flag named) (n + t) (l, r, p), t)
 unfolding tableFault
 reads-fault {n} {xs} {t} {l} {r} {p} {named} R A d =
@@ -166,15 +165,15 @@ reads-fault {n} {xs} {t} {l} {r} {p} {named} R A d =
     zero-more j = omega arith
 
 -- all rows are read
-pub record Accepted (n : ℕ) (xs names larger small up waits : List ℕ) : Type 0 where
+pub record Accepted (n : ℕ) (xs names lows small next last : List ℕ) : Type 0 where
   pub no-fault : tableFault n (rowsOf xs) ≡ none
   pub count : length (rowsOf xs) ≡ n - 1
-  pub built : Built n (rowsOf xs) names larger small up waits
+  pub built : Built n (rowsOf xs) names lows small next last
 
-pub reads-end : {n : ℕ} {xs : List ℕ} {t : ℕ} {named names larger small up waits : List ℕ} → Reads n xs t named names larger small up waits → n - 1 ≤ t
-    → Accepted n xs names larger small up waits
+pub reads-end : {n : ℕ} {xs : List ℕ} {t : ℕ} {named names lows small next last : List ℕ} → Reads n xs t named names lows small next last → n - 1 ≤ t
+    → Accepted n xs names lows small next last
 unfolding tableFault
-reads-end {n} {xs} {t} {names = a} {larger = b} {small = c} {up = d} {waits = e′} R h =
+reads-end {n} {xs} {t} {names = a} {lows = b} {small = c} {next = d} {last = e′} R h =
     let k = rows-count (n - 1) xs (R .count) in
     let so = R .so-far in
     let e : take t (rowsOf xs) ≡ rowsOf xs = take-all t (rowsOf xs) (omega arith) in
@@ -185,7 +184,7 @@ reads-end {n} {xs} {t} {names = a} {larger = b} {small = c} {up = d} {waits = e�
     }
 
 -- the flags of an accepted row's children are there
-pub reads-inside : {n : ℕ} {xs : List ℕ} {t : ℕ} (l r p : ℕ) {named names larger small up waits : List ℕ} → Reads n xs t named names larger small up waits
+pub reads-inside : {n : ℕ} {xs : List ℕ} {t : ℕ} (l r p : ℕ) {named names lows small next last : List ℕ} → Reads n xs t named names lows small next last
     → t < n - 1 → verdict (flag named) (n + t) (l, r, p) ≡ 0 → (l < length named) × (r < length named)
 reads-inside {n} {xs} {t} l r p {named} R h v =
     let ok = verdict-row n t (flag named) (l, r, p) v in
@@ -194,13 +193,13 @@ reads-inside {n} {xs} {t} l r p {named} R h v =
     (omega (arith, ok .first), omega (arith, ok .second))
 
 -- the rows so far can take one more
-pub adds-some : {n : ℕ} {xs : List ℕ} {t l r p : ℕ} {named names larger small up waits : List ℕ} → Reads n xs t named names larger small up waits
-    → Row-at n xs t l r p → verdict (flag named) (n + t) (l, r, p) ≡ 0 → (rs : List Row) × Adds n rs t l r names larger small up waits
-adds-some {xs = xs} {t = t} R A v = (take t (rowsOf xs), reads-adds R A v)
+pub adds-some : {n : ℕ} {xs : List ℕ} {t l r p : ℕ} {named names lows small next last : List ℕ} → Reads n xs t named names lows small next last
+    → Row-at n xs t l r p → verdict (flag named) (n + t) (l, r, p) ≡ 0 → (m : ℕ) × (rs : List Row) × Adds m rs (n + t) l r names lows small next last
+adds-some {n} {xs = xs} {t = t} R A v = (n, take t (rowsOf xs), reads-adds R A v)
 
 -- and have taken it, where adding does as it says for any rows
-pub reads-more : {n : ℕ} {xs : List ℕ} {t l r p : ℕ} {named names larger small up waits names′ larger′ small′ up′ waits′ : List ℕ}
-    → Reads n xs t named names larger small up waits → Row-at n xs t l r p → verdict (flag named) (n + t) (l, r, p) ≡ 0
-    → ((rs : List Row) → Adds n rs t l r names larger small up waits → Built n (rs ++ ((l, r, n + t) ∷ [])) names′ larger′ small′ up′ waits′)
-    → Reads n xs (t + 1) (set (set named l 1) r 1) names′ larger′ small′ up′ waits′
-reads-more {xs = xs} {t = t} R A v f = reads-next R A v (f (take t (rowsOf xs)) (reads-adds R A v))
+pub reads-more : {n : ℕ} {xs : List ℕ} {t l r p : ℕ} {named names lows small next last names′ lows′ small′ next′ last′ : List ℕ}
+    → Reads n xs t named names lows small next last → Row-at n xs t l r p → verdict (flag named) (n + t) (l, r, p) ≡ 0
+    → ((m : ℕ) (rs : List Row) → Adds m rs (n + t) l r names lows small next last → Built m (rs ++ ((l, r, n + t) ∷ [])) names′ lows′ small′ next′ last′)
+    → Reads n xs (t + 1) (set (set named l 1) r 1) names′ lows′ small′ next′ last′
+reads-more {n} {xs = xs} {t = t} R A v f = reads-next R A v (f n (take t (rowsOf xs)) (reads-adds R A v))

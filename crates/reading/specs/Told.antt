@@ -11,16 +11,15 @@ use Rattle.rules.specs.Tree.{Tree}
 use Rattle.rules.specs.Order.{vectorOf}
 use Rattle.rules.specs.Table.{rowsOf, tableFault, tableTree}
 use Rattle.order.specs.Built.{Built, built-end}
-use Rattle.order.specs.Climb.{Drawn}
-use Rattle.order.specs.Vector.{given}
+use Rattle.order.specs.Vector.{Drawn}
 use Rattle.reading.specs.declared.Found.{Found}
 use Rattle.reading.specs.Verdict.{flag, verdict, rowNumber, verdict-number}
 use Rattle.reading.specs.Reading.{Reads, Row-at, reads-fault, Accepted, reads-end}
 
 -- a fault is what was found, and where none was found the arrays hold the tree of all rows
-pub record HasRead (n : ℕ) (xs names larger small up waits : List ℕ) (r : Found) : Type 0 where
+pub record HasRead (n : ℕ) (xs names lows small next last : List ℕ) (r : Found) : Type 0 where
   pub found : r .number ≢ 0 → tableFault n (rowsOf xs) ≡ some (rowNumber (r .number), r .row)
-  pub all : r .number ≡ 0 → Accepted n xs names larger small up waits
+  pub all : r .number ≡ 0 → Accepted n xs names lows small next last
 
 -- the same with the vector
 pub record Told (n : ℕ) (xs old vector : List ℕ) (r : Found) : Type 0 where
@@ -28,28 +27,28 @@ pub record Told (n : ℕ) (xs old vector : List ℕ) (r : Found) : Type 0 where
   pub none-found : r .number ≡ 0 → tableFault n (rowsOf xs) ≡ none
   pub made : r .number ≡ 0 → vector ≡ vectorOf (tableTree n (rowsOf xs)) ++ drop n old
 
-pub read-fault : {n : ℕ} {xs : List ℕ} {t l r p x : ℕ} {named names larger small up waits : List ℕ} → Reads n xs t named names larger small up waits
-    → Row-at n xs t l r p → x ≡ verdict (flag named) (n + t) (l, r, p) → x ≢ 0 → HasRead n xs names larger small up waits (record { number = x; row = t })
+pub read-fault : {n : ℕ} {xs : List ℕ} {t l r p x : ℕ} {named names lows small next last : List ℕ} → Reads n xs t named names lows small next last
+    → Row-at n xs t l r p → x ≡ verdict (flag named) (n + t) (l, r, p) → x ≢ 0 → HasRead n xs names lows small next last (record { number = x; row = t })
 read-fault {n} {xs} {t} {l} {r} {p} {named = named} R A e d = record {
   found = λ z. reads-fault R A (λ q. d (e ∙ q))
       ∙ ap (λ (k : ℕ). some (k, t)) (sym (verdict-number (flag named) (n + t) (l, r, p) (λ q. d (e ∙ q))) ∙ ap rowNumber (sym e));
   all = λ z. absurd (d z);
 }
 
-pub read-all : {n : ℕ} {xs : List ℕ} {t : ℕ} {named names larger small up waits : List ℕ} → Reads n xs t named names larger small up waits → n - 1 ≤ t
-    → HasRead n xs names larger small up waits (record { number = 0; row = 0 })
+pub read-all : {n : ℕ} {xs : List ℕ} {t : ℕ} {named names lows small next last : List ℕ} → Reads n xs t named names lows small next last → n - 1 ≤ t
+    → HasRead n xs names lows small next last (record { number = 0; row = 0 })
 read-all R h = record { found = λ d. absurd (d refl); all = λ z. reads-end R h }
 
 -- the arrays of all rows draw the table's tree
-pub drawn : {n : ℕ} {xs names larger small up waits : List ℕ} → Accepted n xs names larger small up waits → 1 ≤ n → Drawn (given n small (tableTree n (rowsOf xs))) up waits
+pub drawn : {n : ℕ} {xs names lows small next last : List ℕ} → Accepted n xs names lows small next last → 1 ≤ n → Drawn n (tableTree n (rowsOf xs)) small next last
 drawn A h = built-end (A .built) (A .count) h
 
-pub some-drawn : {n : ℕ} {xs names larger small up waits : List ℕ} → Accepted n xs names larger small up waits → 1 ≤ n → (t : Tree) × Drawn (given n small t) up waits
+pub some-drawn : {n : ℕ} {xs names lows small next last : List ℕ} → Accepted n xs names lows small next last → 1 ≤ n → (t : Tree) × Drawn n t small next last
 some-drawn {n} {xs} A h = (tableTree n (rowsOf xs), drawn A h)
 
-pub told-fault : {n : ℕ} {xs old names larger small up waits : List ℕ} {r : Found} → HasRead n xs names larger small up waits r → r .number ≢ 0 → Told n xs old old r
+pub told-fault : {n : ℕ} {xs old names lows small next last : List ℕ} {r : Found} → HasRead n xs names lows small next last r → r .number ≢ 0 → Told n xs old old r
 told-fault H d = record { found = H .found; none-found = λ z. absurd (d z); made = λ z. absurd (d z) }
 
-pub told-vector : {n : ℕ} {xs old vector names larger small up waits : List ℕ} {r : Found} → HasRead n xs names larger small up waits r → r .number ≡ 0
+pub told-vector : {n : ℕ} {xs old vector names lows small next last : List ℕ} {r : Found} → HasRead n xs names lows small next last r → r .number ≡ 0
     → vector ≡ vectorOf (tableTree n (rowsOf xs)) ++ drop n old → Told n xs old vector r
 told-vector H e v = record { found = H .found; none-found = λ z. H .all z .no-fault; made = λ z. v }

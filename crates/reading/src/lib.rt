@@ -1,8 +1,9 @@
 // The rows of a table that is read, checked and added one by one.
 ghost use mathlib.Core.Path.{_≡_};
 ghost use mathlib.Core.List.{List, _++_};
-ghost use Prim.Native.Nat.{_+_, _-_, _*_, _≤_, _<_};
+ghost use Prim.Native.Nat.{ℕ, _+_, _-_, _*_, _≤_, _<_};
 ghost use lib.ListN.{length, drop};
+ghost use Rattle.order.specs.Walk.{cell};
 ghost use Rattle.reading.specs.Verdict.{flag, verdict};
 ghost use Rattle.reading.specs.Reading.{Reads};
 ghost use Rattle.reading.specs.Told.{HasRead, Told};
@@ -48,30 +49,42 @@ fn row_verdict(named: &[u8], p: usize, l: usize, r: usize, parent: usize) -> u8
     0
 }
 
+// Each leaf is its own name.
+fn name_leaves(names: &mut [u16], n: usize)
+    requires { ⌜ (n ≤ length (now names)) × (n ≤ 1024) ⌝ }
+    ensures { λ _. ⌜ ((k : ℕ) → k < n → cell (now (names .exit)) k ≡ k) ⌝ }
+{
+    let mut k: usize = 0;
+    while k < n {
+        names[k] = k as u16;
+        k += 1;
+    }
+}
+
 // Reads the rows of a table with n leaves: the first that is refused, or none, and then the arrays hold the tree.
 fn read_rows(
     n: usize,
     rows: &[u16],
     named: &mut [u8],
     names: &mut [u16],
-    larger: &mut [u16],
+    lows: &mut [u16],
     small: &mut [u16],
-    up: &mut [u16],
-    waits: &mut [u8],
+    next: &mut [u16],
+    last: &mut [u16],
 ) -> Found
-    requires { ⌜ Reads n (now rows) 0 (now named) (now names) (now larger) (now small) (now up) (now waits) ⌝ }
-    ensures { λ r. ⌜ HasRead n (now (rows .entry)) (now (names .exit)) (now (larger .exit)) (now (small .exit)) (now (up .exit)) (now (waits .exit)) r ⌝ }
+    requires { ⌜ Reads n (now rows) 0 (now named) (now names) (now lows) (now small) (now next) (now last) ⌝ }
+    ensures { λ r. ⌜ HasRead n (now (rows .entry)) (now (names .exit)) (now (lows .exit)) (now (small .exit)) (now (next .exit)) (now (last .exit)) r ⌝ }
 {
-    let last = n - 1;
+    let count = n - 1;
     let mut t: usize = 0;
-    while t < last {
+    while t < count {
         let l = wide(rows[3 * t]);
         let r = wide(rows[3 * t + 1]);
         let x = row_verdict(named, n + t, l, r, wide(rows[3 * t + 2]));
         if x != 0 {
             return Found { number: x, row: t };
         }
-        order::add_pair(names, larger, small, up, waits, n, t, l, r);
+        order::add_pair(names, lows, small, next, last, n + t, l, r);
         named[l] = 1;
         named[r] = 1;
         t += 1;
@@ -85,23 +98,24 @@ pub fn table_vector(n: usize, rows: &[u16], vector: &mut [u16]) -> Found
     ensures { λ r. ⌜ Told n (now (rows .entry)) (now (vector .entry)) (now (vector .exit)) r ⌝ }
 {
     let mut named = [0u8; 2048];
-    let mut names = [0u16; 1024];
-    let mut larger = [0u16; 1024];
+    let mut names = [0u16; 2048];
+    let mut lows = [1024u16; 2048];
     let mut small = [0u16; 1024];
-    let mut up = [0u16; 1024];
-    let mut waits = [0u8; 1024];
+    let mut next = [0u16; 1024];
+    let mut last = [0u16; 1024];
+    name_leaves(&mut names, n);
     let found = read_rows(
         n,
         rows,
         &mut named,
         &mut names,
-        &mut larger,
+        &mut lows,
         &mut small,
-        &mut up,
-        &mut waits,
+        &mut next,
+        &mut last,
     );
     if found.number == 0 {
-        order::vector_of(n, &up, &mut waits, &small, vector);
+        order::vector_of(n, &small, &next, &last, vector);
     }
     found
 }
@@ -112,21 +126,21 @@ fn add_children(
     left: &[u16],
     right: &[u16],
     names: &mut [u16],
-    larger: &mut [u16],
+    lows: &mut [u16],
     small: &mut [u16],
-    up: &mut [u16],
-    waits: &mut [u8],
+    next: &mut [u16],
+    last: &mut [u16],
 )
     requires { ⌜ 1 ≤ n ⌝ }
-    requires { ⌜ Added n (now left) (now right) 0 (now names) (now larger) (now small) (now up) (now waits) ⌝ }
-    ensures { λ _. ⌜ Added n (now (left .entry)) (now (right .entry)) (n - 1) (now (names .exit)) (now (larger .exit)) (now (small .exit)) (now (up .exit)) (now (waits .exit)) ⌝ }
+    requires { ⌜ Added n (now left) (now right) 0 (now names) (now lows) (now small) (now next) (now last) ⌝ }
+    ensures { λ _. ⌜ Added n (now (left .entry)) (now (right .entry)) (n - 1) (now (names .exit)) (now (lows .exit)) (now (small .exit)) (now (next .exit)) (now (last .exit)) ⌝ }
 {
-    let last = n - 1;
+    let count = n - 1;
     let mut t: usize = 0;
-    while t < last {
+    while t < count {
         let l = wide(left[t]);
         let r = wide(right[t]);
-        order::add_pair(names, larger, small, up, waits, n, t, l, r);
+        order::add_pair(names, lows, small, next, last, n + t, l, r);
         t += 1;
     }
 }
@@ -137,20 +151,21 @@ pub fn children_vector(n: usize, left: &[u16], right: &[u16], vector: &mut [u16]
     requires { ⌜ ((rs : List Row) × Children n (now left) (now right) rs) ⌝ }
     ensures { λ _. ⌜ ((rs : List Row) → Children n (now (left .entry)) (now (right .entry)) rs → now (vector .exit) ≡ vectorOf (tableTree n rs) ++ drop n (now (vector .entry))) ⌝ }
 {
-    let mut names = [0u16; 1024];
-    let mut larger = [0u16; 1024];
+    let mut names = [0u16; 2048];
+    let mut lows = [1024u16; 2048];
     let mut small = [0u16; 1024];
-    let mut up = [0u16; 1024];
-    let mut waits = [0u8; 1024];
+    let mut next = [0u16; 1024];
+    let mut last = [0u16; 1024];
+    name_leaves(&mut names, n);
     add_children(
         n,
         left,
         right,
         &mut names,
-        &mut larger,
+        &mut lows,
         &mut small,
-        &mut up,
-        &mut waits,
+        &mut next,
+        &mut last,
     );
-    order::vector_of(n, &up, &mut waits, &small, vector);
+    order::vector_of(n, &small, &next, &last, vector);
 }

@@ -1,18 +1,39 @@
--- `add_pair` meets its contract: the row's names, and what is stored at them.
+-- `add_pair` meets its contract: the row's names and its key, and what is stored at them.
 use mathlib.Core.Path.{_≡_, refl, sym, ap, _∙_}
 use Prim.Native.Nat.{ℕ, _+_, _-_, _*_, _<_, _≤_}
 use lib.ListN.{length, set, length-set}
-use Rattle.order.specs.Built.{adds-children, adds-room, built-next, inner-le}
+use Rattle.order.specs.Built.{adds-parent, adds-room, adds-last, built-next}
 use native.Mathlib.Omega.{arith}
 use borrow.Author.Needs.{needs}
 use Rattle.order.proofs.add_pair.Statement.{statement}
 use Rattle.order.proofs.add_pair.Tie as tie
+use Rattle.order.proofs.add_pair.Reads as reads
+use Rattle.order.proofs.add_pair.Lts as lts
+use Rattle.order.proofs.greater.Reads as greater-reads
+use Rattle.order.proofs.lesser.Reads as lesser-reads
+use Rattle.order.proofs.wide.Reads as wide-reads
 
-name-of-requires : tie.Need-name-of-requires
-name-of-requires c κs = omega (arith, adds-children (c .before .before .before .before .before .before .pre .1))
+-- room for the row's names and its key
+here : (c : tie.After-lesser3) → (c .before .before .before .before .before .before .before .lesser .result < 1024) × (c .before .before .before .before .before .before .greater .result < 1024) × (c .lesser3 .result < 1024) × (c .before .before .before .before .before .before .greater .result < length (c .before .before .before .before .before .before .before .before .before .before .before .before .before .before .before .before .before .args .small .now)) × (c .before .before .before .before .before .before .greater .result < length (c .before .before .before .before .before .before .before .before .before .before .before .before .before .before .before .before .before .args .next .now)) × (c .lesser3 .result < length (c .before .before .before .before .before .before .before .before .before .before .before .before .before .before .before .before .before .args .last .now))
+here c = adds-room (c .before .before .before .before .before .before .before .before .before .before .before .before .before .before .before .before .before .pre .2) (c .before .before .before .before .before .before .before .before .before .before .wide .ensures) (c .before .before .before .before .before .before .before .before .wide2 .ensures) (c .before .before .before .before .before .before .before .lesser .ensures) (c .before .before .before .before .before .before .greater .ensures) (c .before .before .before .before .wide3 .ensures) (c .before .before .wide4 .ensures) (c .before .lesser2 .ensures) (c .lesser3 .ensures)
 
-name-of-requires-2 : tie.Need-name-of-requires-2
-name-of-requires-2 c κs = omega (arith, adds-children (c .before .before .before .before .before .before .before .before .pre .1))
+mul-wide : tie.Need-mul-wide
+mul-wide c = search needs
+
+slice-read-wide : tie.Need-slice-read-wide
+slice-read-wide c = omega (arith, adds-parent (c .before .before .before .before .before .before .pre .2))
+
+wide-requires : tie.Need-wide-requires
+wide-requires c κs = search needs
+
+mul-wide-2 : tie.Need-mul-wide-2
+mul-wide-2 c = search needs
+
+slice-read-wide-2 : tie.Need-slice-read-wide-2
+slice-read-wide-2 c = omega (arith, adds-parent (c .before .before .before .before .before .before .before .before .pre .2))
+
+wide-requires-2 : tie.Need-wide-requires-2
+wide-requires-2 c κs = search needs
 
 lesser-requires : tie.Need-lesser-requires
 lesser-requires c κs = search needs
@@ -20,74 +41,89 @@ lesser-requires c κs = search needs
 greater-requires : tie.Need-greater-requires
 greater-requires c κs = search needs
 
-larger-of-requires : tie.Need-larger-of-requires
-larger-of-requires c κs = omega (arith, adds-children (c .before .before .before .before .before .before .before .before .before .before .before .before .pre .1))
+mul-wide-3 : tie.Need-mul-wide-3
+mul-wide-3 c = search needs
 
-larger-of-requires-2 : tie.Need-larger-of-requires-2
-larger-of-requires-2 c κs = omega (arith, adds-children (c .before .before .before .before .before .before .before .before .before .before .before .before .before .before .pre .1))
+slice-read-wide-3 : tie.Need-slice-read-wide-3
+slice-read-wide-3 c = omega (arith, adds-parent (c .before .before .before .before .before .before .before .before .before .before .before .before .pre .2))
 
-cast-up : tie.Need-cast-up
-cast-up c = omega (arith, adds-room (c .before .before .before .before .before .before .before .before .before .before .before .before .before .before .before .pre .1) (c .before .before .before .before .before .before .before .before .name-of .ensures) (c .before .before .before .before .before .before .name-of2 .ensures) (c .before .before .before .before .before .lesser .ensures) (c .before .before .before .before .greater .ensures) (c .before .before .larger-of .ensures) (c .larger-of2 .ensures))
+wide-requires-3 : tie.Need-wide-requires-3
+wide-requires-3 c κs = search needs
 
-mul-up : tie.Need-mul-up
-mul-up c = omega (arith, adds-room (c .before .before .before .before .before .before .before .before .before .before .before .before .before .before .before .pre .1) (c .before .before .before .before .before .before .before .before .name-of .ensures) (c .before .before .before .before .before .before .name-of2 .ensures) (c .before .before .before .before .before .lesser .ensures) (c .before .before .before .before .greater .ensures) (c .before .before .larger-of .ensures) (c .larger-of2 .ensures))
+mul-wide-4 : tie.Need-mul-wide-4
+mul-wide-4 c = search needs
 
-slice-write-up : tie.Need-slice-write-up
-slice-write-up c = omega (arith, adds-room (c .before .before .before .before .before .before .before .before .before .before .before .before .before .before .before .pre .1) (c .before .before .before .before .before .before .before .before .name-of .ensures) (c .before .before .before .before .before .before .name-of2 .ensures) (c .before .before .before .before .before .lesser .ensures) (c .before .before .before .before .greater .ensures) (c .before .before .larger-of .ensures) (c .larger-of2 .ensures))
+slice-read-wide-4 : tie.Need-slice-read-wide-4
+slice-read-wide-4 c = omega (arith, adds-parent (c .before .before .before .before .before .before .before .before .before .before .before .before .before .before .pre .2))
 
-cast-up-2 : tie.Need-cast-up-2
-cast-up-2 c = omega (arith, adds-room (c .before .before .before .before .before .before .before .before .before .before .before .before .before .before .before .pre .1) (c .before .before .before .before .before .before .before .before .name-of .ensures) (c .before .before .before .before .before .before .name-of2 .ensures) (c .before .before .before .before .before .lesser .ensures) (c .before .before .before .before .greater .ensures) (c .before .before .larger-of .ensures) (c .larger-of2 .ensures))
+wide-requires-4 : tie.Need-wide-requires-4
+wide-requires-4 c κs = search needs
 
-mul-up-2 : tie.Need-mul-up-2
-mul-up-2 c = omega (arith, adds-room (c .before .before .before .before .before .before .before .before .before .before .before .before .before .before .before .pre .1) (c .before .before .before .before .before .before .before .before .name-of .ensures) (c .before .before .before .before .before .before .name-of2 .ensures) (c .before .before .before .before .before .lesser .ensures) (c .before .before .before .before .greater .ensures) (c .before .before .larger-of .ensures) (c .larger-of2 .ensures))
+lesser-requires-2 : tie.Need-lesser-requires-2
+lesser-requires-2 c κs = search needs
 
-slice-write-up-2 : tie.Need-slice-write-up-2
-slice-write-up-2 c = omega (arith, adds-room (c .before .before .before .before .before .before .before .before .before .before .before .before .before .before .before .pre .1) (c .before .before .before .before .before .before .before .before .name-of .ensures) (c .before .before .before .before .before .before .name-of2 .ensures) (c .before .before .before .before .before .lesser .ensures) (c .before .before .before .before .greater .ensures) (c .before .before .larger-of .ensures) (c .larger-of2 .ensures), length-set (c .before .before .before .before .before .before .before .before .before .before .before .before .before .before .before .args .up .now) (c .before .before .larger-of .result) (c .before .before .before .before .greater .result))
+lesser-requires-3 : tie.Need-lesser-requires-3
+lesser-requires-3 c κs = search needs
 
-mul-up-3 : tie.Need-mul-up-3
-mul-up-3 c = omega (arith, adds-room (c .before .before .before .before .before .before .before .before .before .before .before .before .before .before .before .pre .1) (c .before .before .before .before .before .before .before .before .name-of .ensures) (c .before .before .before .before .before .before .name-of2 .ensures) (c .before .before .before .before .before .lesser .ensures) (c .before .before .before .before .greater .ensures) (c .before .before .larger-of .ensures) (c .larger-of2 .ensures))
+mul-wide-5 : tie.Need-mul-wide-5
+mul-wide-5 c = omega (arith, here c)
 
-slice-write-up-3 : tie.Need-slice-write-up-3
-slice-write-up-3 c = omega (arith, adds-room (c .before .before .before .before .before .before .before .before .before .before .before .before .before .before .before .pre .1) (c .before .before .before .before .before .before .before .before .name-of .ensures) (c .before .before .before .before .before .before .name-of2 .ensures) (c .before .before .before .before .before .lesser .ensures) (c .before .before .before .before .greater .ensures) (c .before .before .larger-of .ensures) (c .larger-of2 .ensures), length-set (c .before .before .before .before .before .before .before .before .before .before .before .before .before .before .before .args .up .now) (c .before .before .larger-of .result) (c .before .before .before .before .greater .result), length-set (set (c .before .before .before .before .before .before .before .before .before .before .before .before .before .before .before .args .up .now) (c .before .before .larger-of .result) (c .before .before .before .before .greater .result)) (c .larger-of2 .result) (c .before .before .before .before .greater .result))
+slice-read-wide-5 : tie.Need-slice-read-wide-5
+slice-read-wide-5 c = here (c .before) .5
+
+wide-requires-5 : tie.Need-wide-requires-5
+wide-requires-5 c κs = search needs
 
 cast-small : tie.Need-cast-small
-cast-small c = omega (arith, adds-room (c .before .before .before .before .before .before .before .before .before .before .before .before .before .before .before .pre .1) (c .before .before .before .before .before .before .before .before .name-of .ensures) (c .before .before .before .before .before .before .name-of2 .ensures) (c .before .before .before .before .before .lesser .ensures) (c .before .before .before .before .greater .ensures) (c .before .before .larger-of .ensures) (c .larger-of2 .ensures))
+cast-small c = omega (arith, here (c .before .before))
 
 mul-small : tie.Need-mul-small
-mul-small c = omega (arith, adds-room (c .before .before .before .before .before .before .before .before .before .before .before .before .before .before .before .pre .1) (c .before .before .before .before .before .before .before .before .name-of .ensures) (c .before .before .before .before .before .before .name-of2 .ensures) (c .before .before .before .before .before .lesser .ensures) (c .before .before .before .before .greater .ensures) (c .before .before .larger-of .ensures) (c .larger-of2 .ensures))
+mul-small c = omega (arith, here (c .before .before))
 
 slice-write-small : tie.Need-slice-write-small
-slice-write-small c = omega (arith, adds-room (c .before .before .before .before .before .before .before .before .before .before .before .before .before .before .before .pre .1) (c .before .before .before .before .before .before .before .before .name-of .ensures) (c .before .before .before .before .before .before .name-of2 .ensures) (c .before .before .before .before .before .lesser .ensures) (c .before .before .before .before .greater .ensures) (c .before .before .larger-of .ensures) (c .larger-of2 .ensures))
+slice-write-small c = here (c .before .before) .3
 
-inner-of-requires : tie.Need-inner-of-requires
-inner-of-requires c κs = search needs
+mul-next : tie.Need-mul-next
+mul-next c = omega (arith, here (c .before .before))
 
-inner-of-requires-2 : tie.Need-inner-of-requires-2
-inner-of-requires-2 c κs = search needs
+slice-write-next : tie.Need-slice-write-next
+slice-write-next c = here (c .before .before) .4
 
-add-waits : tie.Need-add-waits
-add-waits c = omega (arith, c .before .inner-of .ensures, c .inner-of2 .ensures, inner-le (c .before .before .before .before .before .before .before .before .before .before .before .before .before .before .before .before .before .args .n) (c .before .before .before .before .before .before .before .before .before .before .before .before .before .before .before .before .before .args .l), inner-le (c .before .before .before .before .before .before .before .before .before .before .before .before .before .before .before .before .before .args .n) (c .before .before .before .before .before .before .before .before .before .before .before .before .before .before .before .before .before .args .r))
+cast-next : tie.Need-cast-next
+cast-next c = omega (arith, here (c .before .before))
 
-slice-write-waits : tie.Need-slice-write-waits
-slice-write-waits c = omega (arith, adds-room (c .before .before .before .before .before .before .before .before .before .before .before .before .before .before .before .before .before .pre .1) (c .before .before .before .before .before .before .before .before .before .before .name-of .ensures) (c .before .before .before .before .before .before .before .before .name-of2 .ensures) (c .before .before .before .before .before .before .before .lesser .ensures) (c .before .before .before .before .before .before .greater .ensures) (c .before .before .before .before .larger-of .ensures) (c .before .before .larger-of2 .ensures))
+mul-next-2 : tie.Need-mul-next-2
+mul-next-2 c = omega (arith, adds-last (c .before .before .before .before .before .before .before .before .before .before .before .before .before .before .before .before .before .before .before .pre .2) (c .before .before .before .before .before .before .before .before .before .before .before .before .wide .ensures) (c .before .before .before .before .before .before .before .before .before .before .wide2 .ensures) (c .before .before .before .before .before .before .before .before .before .lesser .ensures) (c .before .before .before .before .before .before .before .before .greater .ensures) (c .before .before .before .before .before .before .wide3 .ensures) (c .before .before .before .before .wide4 .ensures) (c .before .before .before .lesser2 .ensures) (c .before .before .lesser3 .ensures) (c .wide5 .ensures))
+
+slice-write-next-2 : tie.Need-slice-write-next-2
+slice-write-next-2 c = simp length-set (adds-last (c .before .before .before .before .before .before .before .before .before .before .before .before .before .before .before .before .before .before .before .pre .2) (c .before .before .before .before .before .before .before .before .before .before .before .before .wide .ensures) (c .before .before .before .before .before .before .before .before .before .before .wide2 .ensures) (c .before .before .before .before .before .before .before .before .before .lesser .ensures) (c .before .before .before .before .before .before .before .before .greater .ensures) (c .before .before .before .before .before .before .wide3 .ensures) (c .before .before .before .before .wide4 .ensures) (c .before .before .before .lesser2 .ensures) (c .before .before .lesser3 .ensures) (c .wide5 .ensures))
+
+cast-last : tie.Need-cast-last
+cast-last c = omega (arith, here (c .before .before))
+
+mul-last : tie.Need-mul-last
+mul-last c = omega (arith, here (c .before .before))
+
+slice-write-last : tie.Need-slice-write-last
+slice-write-last c = here (c .before .before) .5
 
 cast-names : tie.Need-cast-names
-cast-names c = omega (arith, adds-room (c .before .before .before .before .before .before .before .before .before .before .before .before .before .before .before .before .before .pre .1) (c .before .before .before .before .before .before .before .before .before .before .name-of .ensures) (c .before .before .before .before .before .before .before .before .name-of2 .ensures) (c .before .before .before .before .before .before .before .lesser .ensures) (c .before .before .before .before .before .before .greater .ensures) (c .before .before .before .before .larger-of .ensures) (c .before .before .larger-of2 .ensures))
+cast-names c = omega (arith, here (c .before .before))
 
 mul-names : tie.Need-mul-names
-mul-names c = omega (arith, adds-children (c .before .before .before .before .before .before .before .before .before .before .before .before .before .before .before .before .before .pre .1))
+mul-names c = search needs
 
 slice-write-names : tie.Need-slice-write-names
-slice-write-names c = omega (arith, adds-children (c .before .before .before .before .before .before .before .before .before .before .before .before .before .before .before .before .before .pre .1))
+slice-write-names c = adds-parent (c .before .before .before .before .before .before .before .before .before .before .before .before .before .before .before .before .before .before .before .pre .2) .0
 
-cast-larger : tie.Need-cast-larger
-cast-larger c = omega (arith, adds-room (c .before .before .before .before .before .before .before .before .before .before .before .before .before .before .before .before .before .pre .1) (c .before .before .before .before .before .before .before .before .before .before .name-of .ensures) (c .before .before .before .before .before .before .before .before .name-of2 .ensures) (c .before .before .before .before .before .before .before .lesser .ensures) (c .before .before .before .before .before .before .greater .ensures) (c .before .before .before .before .larger-of .ensures) (c .before .before .larger-of2 .ensures))
+cast-lows : tie.Need-cast-lows
+cast-lows c = omega (arith, here (c .before .before))
 
-mul-larger : tie.Need-mul-larger
-mul-larger c = omega (arith, adds-children (c .before .before .before .before .before .before .before .before .before .before .before .before .before .before .before .before .before .pre .1))
+mul-lows : tie.Need-mul-lows
+mul-lows c = search needs
 
-slice-write-larger : tie.Need-slice-write-larger
-slice-write-larger c = omega (arith, adds-children (c .before .before .before .before .before .before .before .before .before .before .before .before .before .before .before .before .before .pre .1))
+slice-write-lows : tie.Need-slice-write-lows
+slice-write-lows c = adds-parent (c .before .before .before .before .before .before .before .before .before .before .before .before .before .before .before .before .before .before .before .pre .2) .1
 
 same-length : tie.Need-same-length
 same-length c = search needs
@@ -105,39 +141,48 @@ same-length-5 : tie.Need-same-length-5
 same-length-5 c = search needs
 
 returns : tie.Need-returns
-returns c = λ rs A. built-next A (c .before .before .before .before .before .before .before .before .before .before .name-of .ensures) (c .before .before .before .before .before .before .before .before .name-of2 .ensures) (c .before .before .before .before .before .before .before .lesser .ensures) (c .before .before .before .before .before .before .greater .ensures) (c .before .before .before .before .larger-of .ensures) (c .before .before .larger-of2 .ensures) (c .before .inner-of .ensures) (c .inner-of2 .ensures)
+returns c = λ n rs A. built-next A (c .before .before .before .before .before .before .before .before .before .before .before .before .wide .ensures) (c .before .before .before .before .before .before .before .before .before .before .wide2 .ensures) (c .before .before .before .before .before .before .before .before .before .lesser .ensures) (c .before .before .before .before .before .before .before .before .greater .ensures) (c .before .before .before .before .before .before .wide3 .ensures) (c .before .before .before .before .wide4 .ensures) (c .before .before .before .lesser2 .ensures) (c .before .before .lesser3 .ensures) (c .wide5 .ensures)
 
 pub add-pair-spec : {M : Type 1} → statement M
 add-pair-spec =
     tie.close
     (tie.spec
-    name-of-requires
-    name-of-requires-2
+    mul-wide
+    slice-read-wide
+    wide-requires
+    mul-wide-2
+    slice-read-wide-2
+    wide-requires-2
     lesser-requires
     greater-requires
-    larger-of-requires
-    larger-of-requires-2
-    cast-up
-    mul-up
-    slice-write-up
-    cast-up-2
-    mul-up-2
-    slice-write-up-2
-    mul-up-3
-    slice-write-up-3
+    mul-wide-3
+    slice-read-wide-3
+    wide-requires-3
+    mul-wide-4
+    slice-read-wide-4
+    wide-requires-4
+    lesser-requires-2
+    lesser-requires-3
+    mul-wide-5
+    slice-read-wide-5
+    wide-requires-5
     cast-small
     mul-small
     slice-write-small
-    inner-of-requires
-    inner-of-requires-2
-    add-waits
-    slice-write-waits
+    mul-next
+    slice-write-next
+    cast-next
+    mul-next-2
+    slice-write-next-2
+    cast-last
+    mul-last
+    slice-write-last
     cast-names
     mul-names
     slice-write-names
-    cast-larger
-    mul-larger
-    slice-write-larger
+    cast-lows
+    mul-lows
+    slice-write-lows
     same-length
     same-length-2
     same-length-3

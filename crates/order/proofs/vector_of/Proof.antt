@@ -1,40 +1,93 @@
--- `vector_of` meets its contract: the climb's sequence, and its entries.
+-- `vector_of` meets its contract. The invariant: the chains of all keys from k on have their entries.
 use mathlib.Core.Path.{_≡_, refl, sym, ap, _∙_}
-use Rattle.order.specs.Vector.{given, sequenced-listed, vector-is}
+use Prim.Native.Nat.{ℕ, _+_, _-_, _<_, _≤_}
+use lib.ListN.{length-set}
+use Rattle.order.specs.Vector.{Filled, filled-start, filled-long, some-key, filled-next, filled-end}
 use native.Mathlib.Omega.{arith}
 use borrow.Author.Needs.{needs}
 use Rattle.order.proofs.vector_of.Statement.{statement}
 use Rattle.order.proofs.vector_of.Tie as tie
+use Rattle.order.proofs.vector_of.Reads as reads
+use Rattle.order.proofs.vector_of.Lts as lts
+use Rattle.order.proofs.enter_key.Reads as enter-key-reads
+use Rattle.ranks.proofs.raise_blocks.Reads as raise-blocks-reads
+use Rattle.ranks.proofs.raise_names.Reads as raise-names-reads
 
-slice-aggregate-climb : tie.Need-slice-aggregate-climb
-slice-aggregate-climb c = search needs
+abbrev Inv-loop : tie.InvT-loop
+Inv-loop n small next last out₀ blocks₀ names₀ block-steps name-steps keys₀ k₀ out blocks names keys k =
+    Filled n small next last out₀ blocks names out keys k
 
-climb-requires : tie.Need-climb-requires
-climb-requires c κs = search needs
+abbrev μ-loop : tie.MeasureT-loop
+μ-loop n small next last out₀ blocks₀ names₀ block-steps name-steps keys₀ k₀ out blocks names keys k =
+    k
 
-slice-aggregate-entries : tie.Need-slice-aggregate-entries
-slice-aggregate-entries c = search needs
+slice-aggregate-raise-blocks : tie.Need-slice-aggregate-raise-blocks Inv-loop μ-loop
+slice-aggregate-raise-blocks c = search needs
 
-entries-requires : tie.Need-entries-requires
-entries-requires c κs = (sequenced-listed (c .before .before .before .before .before .before .before .before .before .before .before .before .pre .0 .1) (c .before .before .before .before .before .climb .ensures (given (c .before .before .before .before .before .before .before .before .before .before .before .before .args .n) (c .before .before .before .before .before .before .before .before .before .before .before .before .args .small .now) (c .before .before .before .before .before .before .before .before .before .before .before .before .pre .0 .0)) refl (c .before .before .before .before .before .before .before .before .before .before .before .before .pre .0 .1)) (c .before .before .before .before .before .before .before .before .before .before .before .before .pre .1 .0) (omega (arith, c .before .before .before .before .before .before .before .before .before .before .before .before .pre .0 .1 .few)), c .before .before .before .before .before .before .before .before .before .before .before .before .pre .1 .1)
+raise-blocks-requires : tie.Need-raise-blocks-requires Inv-loop μ-loop
+raise-blocks-requires c κs = search needs
 
-same-length : tie.Need-same-length
+slice-aggregate-raise-names : tie.Need-slice-aggregate-raise-names Inv-loop μ-loop
+slice-aggregate-raise-names c = search needs
+
+raise-names-requires : tie.Need-raise-names-requires Inv-loop μ-loop
+raise-names-requires c κs = search needs
+
+loop-holds : tie.Need-loop-holds Inv-loop μ-loop
+loop-holds c = filled-start (c .before .before .before .before .before .before .before .before .before .before .pre .0 .1 .some-leaf) (c .before .before .before .before .before .before .before .before .before .before .pre .1)
+
+sub-k : tie.Need-sub-k Inv-loop μ-loop
+sub-k c = search needs
+
+slice-aggregate-enter-key : tie.Need-slice-aggregate-enter-key Inv-loop μ-loop
+slice-aggregate-enter-key c = sym (filled-long (c .before .before .loop .inv) (c .before .before .before .before .before .before .before .before .before .before .before .before .before .pre .0) .0)
+
+slice-aggregate-enter-key-2 : tie.Need-slice-aggregate-enter-key-2 Inv-loop μ-loop
+slice-aggregate-enter-key-2 c = sym (filled-long (c .before .before .before .loop .inv) (c .before .before .before .before .before .before .before .before .before .before .before .before .before .before .pre .0) .1)
+
+slice-aggregate-enter-key-3 : tie.Need-slice-aggregate-enter-key-3 Inv-loop μ-loop
+slice-aggregate-enter-key-3 c = search needs
+
+slice-aggregate-enter-key-4 : tie.Need-slice-aggregate-enter-key-4 Inv-loop μ-loop
+slice-aggregate-enter-key-4 c = search needs
+
+enter-key-requires : tie.Need-enter-key-requires Inv-loop μ-loop
+enter-key-requires c κs = (some-key (c .before .before .before .before .before .before .loop .inv) (c .before .before .before .before .before .loop-test .taken) (c .before .before .before .before .before .before .before .before .before .before .before .before .before .before .before .before .before .pre .0), (c .before .before .before .before .before .before .before .before .before .before .before .raise-blocks .ensures, c .before .before .before .before .before .before .before .before .raise-names .ensures))
+
+loop-less : tie.Need-loop-less Inv-loop μ-loop
+loop-less c = search needs
+
+loop-again : tie.Need-loop-again Inv-loop μ-loop
+loop-again c = filled-next (c .before .before .before .before .before .before .before .before .before .before .before .loop .inv) (c .before .before .before .before .before .before .before .before .before .before .loop-test .taken) (c .before .before .before .before .enter-key .ensures) (search needs)
+
+slice-write-out : tie.Need-slice-write-out Inv-loop μ-loop
+slice-write-out c = search needs
+
+same-length : tie.Need-same-length Inv-loop μ-loop
 same-length c = search needs
 
-same-length-2 : tie.Need-same-length-2
-same-length-2 c = search needs
-
-returns : tie.Need-returns
-returns c = λ t D. c .before .before .entries .ensures ∙ vector-is (c .before .before .before .before .before .before .before .before .before .before .before .before .before .before .before .args .small .now) (c .before .before .before .before .before .before .before .before .before .before .before .before .before .before .before .args .out .now) D (c .before .before .before .before .before .before .before .before .climb .ensures (given (c .before .before .before .before .before .before .before .before .before .before .before .before .before .before .before .args .n) (c .before .before .before .before .before .before .before .before .before .before .before .before .before .before .before .args .small .now) t) refl D)
+returns : tie.Need-returns Inv-loop μ-loop
+returns c = filled-end (c .before .loop .inv) (omega (arith, c .loop-test .left))
 
 pub vector-of-spec : {M : Type 1} → statement M
 vector-of-spec =
     tie.close
     (tie.spec
-    slice-aggregate-climb
-    climb-requires
-    slice-aggregate-entries
-    entries-requires
+    Inv-loop
+    μ-loop
+    slice-aggregate-raise-blocks
+    raise-blocks-requires
+    slice-aggregate-raise-names
+    raise-names-requires
+    loop-holds
+    sub-k
+    slice-aggregate-enter-key
+    slice-aggregate-enter-key-2
+    slice-aggregate-enter-key-3
+    slice-aggregate-enter-key-4
+    enter-key-requires
+    loop-less
+    loop-again
+    slice-write-out
     same-length
-    same-length-2
     returns)

@@ -1,6 +1,7 @@
 use mathlib.Core.Path.{refl}
+use Rattle.reading.specs.Leaves.{built-leaves}
+use Rattle.reading.specs.Children.{added-start, added-end, some-tree}
 use native.Mathlib.Omega.{arith}
-use Rattle.reading.specs.Children.{added-start, added-end, some-tree, small-there}
 use borrow.Author.Needs.{needs}
 use Rattle.reading.proofs.children_vector.Statement.{statement}
 use Rattle.reading.proofs.children_vector.Tie as tie
@@ -8,60 +9,56 @@ use Rattle.reading.proofs.children_vector.Reads as reads
 use Rattle.reading.proofs.children_vector.Lts as lts
 use Rattle.order.proofs.vector_of.Reads as vector-of-reads
 use Rattle.reading.proofs.add_children.Reads as add-children-reads
+use Rattle.reading.proofs.name_leaves.Reads as name-leaves-reads
 
--- src/lib.rt:136:34
+slice-aggregate-name-leaves : tie.Need-slice-aggregate-name-leaves
+slice-aggregate-name-leaves c = search needs
+
+name-leaves-requires : tie.Need-name-leaves-requires
+name-leaves-requires c κs = search needs
+
 slice-aggregate-add-children : tie.Need-slice-aggregate-add-children
 slice-aggregate-add-children c = search needs
 
--- src/lib.rt:136:46
 slice-aggregate-add-children-2 : tie.Need-slice-aggregate-add-children-2
 slice-aggregate-add-children-2 c = search needs
 
--- src/lib.rt:136:59
 slice-aggregate-add-children-3 : tie.Need-slice-aggregate-add-children-3
 slice-aggregate-add-children-3 c = search needs
 
--- src/lib.rt:136:71
 slice-aggregate-add-children-4 : tie.Need-slice-aggregate-add-children-4
 slice-aggregate-add-children-4 c = search needs
 
--- src/lib.rt:136:80
 slice-aggregate-add-children-5 : tie.Need-slice-aggregate-add-children-5
 slice-aggregate-add-children-5 c = search needs
 
--- src/lib.rt:136:5
 add-children-requires : tie.Need-add-children-requires
-add-children-requires c κs = (c .before .before .before .before .before .before .before .before .pre .0 .0, added-start (c .before .before .before .before .before .before .before .before .pre .0 .1) (c .before .before .before .before .before .before .before .before .pre .0 .2) (c .before .before .before .before .before .before .before .before .pre .0 .3) (c .before .before .before .before .before .before .before .before .pre .1) refl refl refl refl refl)
+add-children-requires c κs = (c .before .before .before .before .before .before .before .before .before .before .before .pre .0 .0, added-start (c .before .before .before .before .before .before .before .before .before .before .before .pre .0 .1) (c .before .before .before .before .before .before .before .before .before .before .before .pre .0 .2) (c .before .before .before .before .before .before .before .before .before .before .before .pre .0 .3) (c .before .before .before .before .before .before .before .before .before .before .before .pre .1) (built-leaves (c .before .before .before .before .before .before .before .before .before .before .before .pre .0 .1) (search needs) (c .before .before .before .before .before .before .name-leaves .ensures)))
 
--- src/lib.rt:137:25
 slice-aggregate-vector-of : tie.Need-slice-aggregate-vector-of
 slice-aggregate-vector-of c = search needs
 
--- src/lib.rt:137:30
 slice-aggregate-vector-of-2 : tie.Need-slice-aggregate-vector-of-2
 slice-aggregate-vector-of-2 c = search needs
 
--- src/lib.rt:137:42
 slice-aggregate-vector-of-3 : tie.Need-slice-aggregate-vector-of-3
 slice-aggregate-vector-of-3 c = search needs
 
--- src/lib.rt:137:5
 vector-of-requires : tie.Need-vector-of-requires
-vector-of-requires c κs = let A = c .before .before .before .before .before .before .before .before .before .add-children .ensures in
-    (some-tree A (omega arith) (c .before .before .before .before .before .before .before .before .before .before .before .before .before .before .before .before .before .before .pre .0 .0), (small-there A, c .before .before .before .before .before .before .before .before .before .before .before .before .before .before .before .before .before .before .pre .0 .4))
+vector-of-requires c κs = (some-tree (c .before .before .before .before .before .before .before .before .before .add-children .ensures) (omega arith) (c .before .before .before .before .before .before .before .before .before .before .before .before .before .before .before .before .before .before .before .before .before .pre .0 .0), c .before .before .before .before .before .before .before .before .before .before .before .before .before .before .before .before .before .before .before .before .before .pre .0 .4)
 
--- src/lib.rt:126:1
 same-length : tie.Need-same-length
 same-length c = search needs
 
--- src/lib.rt:126:1
 returns : tie.Need-returns
-returns c = λ rs C. c .before .before .before .vector-of .ensures _ (added-end (c .before .before .before .before .before .before .before .before .before .before .before .before .before .add-children .ensures) (omega arith) (c .before .before .before .before .before .before .before .before .before .before .before .before .before .before .before .before .before .before .before .before .before .before .pre .0 .0) rs C)
+returns c = λ rs C. c .before .before .vector-of .ensures _ (added-end (c .before .before .before .before .before .before .before .before .before .before .before .before .add-children .ensures) (omega arith) (c .before .before .before .before .before .before .before .before .before .before .before .before .before .before .before .before .before .before .before .before .before .before .before .before .pre .0 .0) rs C)
 
 pub children-vector-spec : {M : Type 1} → statement M
 children-vector-spec =
     tie.close
     (tie.spec
+    slice-aggregate-name-leaves
+    name-leaves-requires
     slice-aggregate-add-children
     slice-aggregate-add-children-2
     slice-aggregate-add-children-3

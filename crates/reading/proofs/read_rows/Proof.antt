@@ -15,167 +15,132 @@ use Rattle.reading.proofs.row_verdict.Reads as row-verdict-reads
 use Rattle.reading.proofs.wide.Reads as wide-reads
 
 abbrev Inv-loop : tie.InvT-loop
-Inv-loop n rows named₀ names₀ larger₀ small₀ up₀ waits₀ last t₀ named names larger small up waits t =
-    Reads n rows t named names larger small up waits × Lengths named₀ names₀ larger₀ small₀ up₀ waits₀ named names larger small up waits × (last ≡ n - 1)
+Inv-loop n rows named₀ names₀ lows₀ small₀ next₀ last₀ count t₀ named names lows small next last t =
+    Reads n rows t named names lows small next last × Lengths named₀ names₀ lows₀ small₀ next₀ last₀ named names lows small next last × (count ≡ n - 1)
 
 abbrev μ-loop : tie.MeasureT-loop
-μ-loop n rows named₀ names₀ larger₀ small₀ up₀ waits₀ last t₀ named names larger small up waits t = last - t
+μ-loop n rows named₀ names₀ lows₀ small₀ next₀ last₀ count t₀ named names lows small next last t = count - t
 
--- src/lib.rt:62:16
-sub-last : tie.Need-sub-last Inv-loop μ-loop
-sub-last c = search needs
+sub-count : tie.Need-sub-count Inv-loop μ-loop
+sub-count c = search needs
 
--- src/lib.rt:64:5
 loop-holds : tie.Need-loop-holds Inv-loop μ-loop
-loop-holds c = (c .before .before .before .before .before .before .before .pre, record { of-named = refl; of-names = refl; of-larger = refl; of-small = refl; of-up = refl; of-waits = refl }, refl)
+loop-holds c = (c .before .before .before .before .before .before .before .pre, record { of-named = refl; of-names = refl; of-lows = refl; of-small = refl; of-next = refl; of-last = refl }, refl)
 
--- src/lib.rt:65:27
 mul-wide : tie.Need-mul-wide Inv-loop μ-loop
 mul-wide c = search needs
 
--- src/lib.rt:65:22
 mul-wide-2 : tie.Need-mul-wide-2 Inv-loop μ-loop
 mul-wide-2 c = search needs
 
--- src/lib.rt:65:22
 shared-slice-read-wide : tie.Need-shared-slice-read-wide Inv-loop μ-loop
 shared-slice-read-wide c = search needs
 
--- src/lib.rt:65:13
 wide-requires : tie.Need-wide-requires Inv-loop μ-loop
 wide-requires c κs = search needs
 
--- src/lib.rt:66:27
 mul-wide-3 : tie.Need-mul-wide-3 Inv-loop μ-loop
 mul-wide-3 c = search needs
 
--- src/lib.rt:66:27
 add-wide : tie.Need-add-wide Inv-loop μ-loop
 add-wide c = search needs
 
--- src/lib.rt:66:22
 mul-wide-4 : tie.Need-mul-wide-4 Inv-loop μ-loop
 mul-wide-4 c = search needs
 
--- src/lib.rt:66:22
 shared-slice-read-wide-2 : tie.Need-shared-slice-read-wide-2 Inv-loop μ-loop
 shared-slice-read-wide-2 c = search needs
 
--- src/lib.rt:66:13
 wide-requires-2 : tie.Need-wide-requires-2 Inv-loop μ-loop
 wide-requires-2 c κs = search needs
 
--- src/lib.rt:67:36
 add-row-verdict : tie.Need-add-row-verdict Inv-loop μ-loop
 add-row-verdict c = search needs
 
--- src/lib.rt:67:59
 mul-wide-5 : tie.Need-mul-wide-5 Inv-loop μ-loop
 mul-wide-5 c = search needs
 
--- src/lib.rt:67:59
 add-wide-2 : tie.Need-add-wide-2 Inv-loop μ-loop
 add-wide-2 c = search needs
 
--- src/lib.rt:67:54
 mul-wide-6 : tie.Need-mul-wide-6 Inv-loop μ-loop
 mul-wide-6 c = search needs
 
--- src/lib.rt:67:54
 shared-slice-read-wide-3 : tie.Need-shared-slice-read-wide-3 Inv-loop μ-loop
 shared-slice-read-wide-3 c = search needs
 
--- src/lib.rt:67:49
 wide-requires-3 : tie.Need-wide-requires-3 Inv-loop μ-loop
 wide-requires-3 c κs = search needs
 
--- src/lib.rt:67:13
 row-verdict-requires : tie.Need-row-verdict-requires Inv-loop μ-loop
 row-verdict-requires c κs = (omega arith, c .before .before .before .before .before .before .before .before .loop .inv .0 .room)
 
--- src/lib.rt:69:13
 same-length : tie.Need-same-length Inv-loop μ-loop
 same-length c = search needs
 
--- src/lib.rt:69:13
 same-length-2 : tie.Need-same-length-2 Inv-loop μ-loop
 same-length-2 c = search needs
 
--- src/lib.rt:69:13
 same-length-3 : tie.Need-same-length-3 Inv-loop μ-loop
 same-length-3 c = search needs
 
--- src/lib.rt:69:13
 same-length-4 : tie.Need-same-length-4 Inv-loop μ-loop
 same-length-4 c = search needs
 
--- src/lib.rt:69:13
 same-length-5 : tie.Need-same-length-5 Inv-loop μ-loop
 same-length-5 c = search needs
 
--- src/lib.rt:69:13
 same-length-6 : tie.Need-same-length-6 Inv-loop μ-loop
 same-length-6 c = search needs
 
--- src/lib.rt:69:13
 returns : tie.Need-returns Inv-loop μ-loop
 returns c = read-fault (c .before .before .before .before .before .before .before .before .before .before .loop .inv .0) (record { inside = omega arith; first = sym (c .before .before .before .before .before .before .before .wide .ensures); second = sym (c .before .before .before .before .before .wide2 .ensures); parent = sym (c .before .before .wide3 .ensures) }) (c .before .row-verdict .ensures) (c .if1 .taken)
 
--- src/lib.rt:71:9
+add-add-pair : tie.Need-add-add-pair Inv-loop μ-loop
+add-add-pair c = search needs
+
 add-pair-requires : tie.Need-add-pair-requires Inv-loop μ-loop
 add-pair-requires c κs = adds-some (c .before .before .before .before .before .before .before .before .before .before .before .before .before .before .before .loop .inv .0) (record { inside = omega arith; first = sym (c .before .before .before .before .before .before .before .before .before .before .before .before .wide .ensures); second = sym (c .before .before .before .before .before .before .before .before .before .before .wide2 .ensures); parent = sym (c .before .before .before .before .before .before .before .wide3 .ensures) }) (sym (c .before .before .before .before .before .before .row-verdict .ensures) ∙ c .before .before .before .before .before .if1 .left)
 
--- src/lib.rt:72:9
 slice-write-named : tie.Need-slice-write-named Inv-loop μ-loop
 slice-write-named c = reads-inside _ _ _ (c .before .before .before .before .before .before .before .before .before .before .before .before .before .before .before .before .before .before .before .before .before .before .before .before .before .before .loop .inv .0) (omega arith) (sym (c .before .before .before .before .before .before .before .before .before .before .before .before .before .before .before .before .before .row-verdict .ensures) ∙ c .before .before .before .before .before .before .before .before .before .before .before .before .before .before .before .before .if1 .left) .0
 
--- src/lib.rt:73:9
 slice-write-named-2 : tie.Need-slice-write-named-2 Inv-loop μ-loop
 slice-write-named-2 c = simp length-set (reads-inside _ _ _ (c .before .before .before .before .before .before .before .before .before .before .before .before .before .before .before .before .before .before .before .before .before .before .before .before .before .before .loop .inv .0) (omega arith) (sym (c .before .before .before .before .before .before .before .before .before .before .before .before .before .before .before .before .before .row-verdict .ensures) ∙ c .before .before .before .before .before .before .before .before .before .before .before .before .before .before .before .before .if1 .left) .1)
 
--- src/lib.rt:74:9
 add-t : tie.Need-add-t Inv-loop μ-loop
 add-t c = search needs
 
--- src/lib.rt:64:5
 loop-less : tie.Need-loop-less Inv-loop μ-loop
 loop-less c = search needs
 
--- src/lib.rt:64:5
 loop-again : tie.Need-loop-again Inv-loop μ-loop
 loop-again c = (
   reads-more (c .before .before .before .before .before .before .before .before .before .before .before .before .before .before .before .before .before .before .before .before .before .before .before .before .before .before .loop .inv .0)
       (record { inside = omega arith; first = sym (c .before .before .before .before .before .before .before .before .before .before .before .before .before .before .before .before .before .before .before .before .before .before .before .wide .ensures); second = sym (c .before .before .before .before .before .before .before .before .before .before .before .before .before .before .before .before .before .before .before .before .before .wide2 .ensures); parent = sym (c .before .before .before .before .before .before .before .before .before .before .before .before .before .before .before .before .before .before .wide3 .ensures) })
       (sym (c .before .before .before .before .before .before .before .before .before .before .before .before .before .before .before .before .before .row-verdict .ensures) ∙ c .before .before .before .before .before .before .before .before .before .before .before .before .before .before .before .before .if1 .left) (c .before .before .before .before .before .before .before .before .before .before .add-pair .ensures),
-  record { of-named = simp length-set (c .before .before .before .before .before .before .before .before .before .before .before .before .before .before .before .before .before .before .before .before .before .before .before .before .before .before .loop .inv .1 .of-named); of-names = omega (arith, c .before .before .before .before .before .before .before .before .before .before .add-pair .kept); of-larger = omega (arith, c .before .before .before .before .before .before .before .before .before .before .add-pair .kept); of-small = omega (arith, c .before .before .before .before .before .before .before .before .before .before .add-pair .kept); of-up = omega (arith, c .before .before .before .before .before .before .before .before .before .before .add-pair .kept); of-waits = omega (arith, c .before .before .before .before .before .before .before .before .before .before .add-pair .kept) },
+  record { of-named = simp length-set (c .before .before .before .before .before .before .before .before .before .before .before .before .before .before .before .before .before .before .before .before .before .before .before .before .before .before .loop .inv .1 .of-named); of-names = omega (arith, c .before .before .before .before .before .before .before .before .before .before .add-pair .kept); of-lows = omega (arith, c .before .before .before .before .before .before .before .before .before .before .add-pair .kept); of-small = omega (arith, c .before .before .before .before .before .before .before .before .before .before .add-pair .kept); of-next = omega (arith, c .before .before .before .before .before .before .before .before .before .before .add-pair .kept); of-last = omega (arith, c .before .before .before .before .before .before .before .before .before .before .add-pair .kept) },
   c .before .before .before .before .before .before .before .before .before .before .before .before .before .before .before .before .before .before .before .before .before .before .before .before .before .before .loop .inv .2,
 )
 
--- src/lib.rt:49:1
 same-length-7 : tie.Need-same-length-7 Inv-loop μ-loop
 same-length-7 c = search needs
 
--- src/lib.rt:49:1
 same-length-8 : tie.Need-same-length-8 Inv-loop μ-loop
 same-length-8 c = search needs
 
--- src/lib.rt:49:1
 same-length-9 : tie.Need-same-length-9 Inv-loop μ-loop
 same-length-9 c = search needs
 
--- src/lib.rt:49:1
 same-length-10 : tie.Need-same-length-10 Inv-loop μ-loop
 same-length-10 c = search needs
 
--- src/lib.rt:49:1
 same-length-11 : tie.Need-same-length-11 Inv-loop μ-loop
 same-length-11 c = search needs
 
--- src/lib.rt:49:1
 same-length-12 : tie.Need-same-length-12 Inv-loop μ-loop
 same-length-12 c = search needs
 
--- src/lib.rt:49:1
 returns-2 : tie.Need-returns-2 Inv-loop μ-loop
 returns-2 c = read-all (c .before .loop .inv .0) (omega arith)
 
@@ -185,7 +150,7 @@ read-rows-spec =
     (tie.spec
     Inv-loop
     μ-loop
-    sub-last
+    sub-count
     loop-holds
     mul-wide
     mul-wide-2
@@ -210,6 +175,7 @@ read-rows-spec =
     same-length-5
     same-length-6
     returns
+    add-add-pair
     add-pair-requires
     slice-write-named
     slice-write-named-2

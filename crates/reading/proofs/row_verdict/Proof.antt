@@ -6,39 +6,30 @@ use Rattle.reading.proofs.row_verdict.Tie as tie
 use Rattle.reading.proofs.row_verdict.Reads as reads
 use Rattle.reading.proofs.row_verdict.Lts as lts
 
--- src/lib.rt:27:9
 returns : tie.Need-returns
 returns c = wrong-parent _ _ _ _ _ (c .if1 .taken)
 
--- src/lib.rt:30:9
 returns-2 : tie.Need-returns-2
 returns-2 c = wrong-first _ _ _ _ _ (c .before .if1 .left) (c .if2 .taken)
 
--- src/lib.rt:33:9
 returns-3 : tie.Need-returns-3
 returns-3 c = wrong-second _ _ _ _ _ (c .before .before .if1 .left) (c .before .if2 .left) (c .if3 .taken)
 
--- src/lib.rt:35:8
 shared-slice-read-if4 : tie.Need-shared-slice-read-if4
 shared-slice-read-if4 c = search needs
 
--- src/lib.rt:36:9
 returns-4 : tie.Need-returns-4
 returns-4 c = first-named _ _ _ _ _ (c .before .before .before .before .if1 .left) (c .before .before .before .if2 .left) (c .before .before .if3 .left) (c .if4 .taken)
 
--- src/lib.rt:38:8
 shared-slice-read-if5 : tie.Need-shared-slice-read-if5
 shared-slice-read-if5 c = search needs
 
--- src/lib.rt:39:9
 returns-5 : tie.Need-returns-5
 returns-5 c = second-named _ _ _ _ _ (c .before .before .before .before .before .before .if1 .left) (c .before .before .before .before .before .if2 .left) (c .before .before .before .before .if3 .left) (c .before .before .if4 .left) (c .if5 .taken)
 
--- src/lib.rt:42:9
 returns-6 : tie.Need-returns-6
 returns-6 c = same-child _ _ _ _ _ (c .before .before .before .before .before .before .before .if1 .left) (c .before .before .before .before .before .before .if2 .left) (c .before .before .before .before .before .if3 .left) (c .before .before .before .if4 .left) (c .before .if5 .left) (c .if6 .taken)
 
--- src/lib.rt:22:1
 returns-7 : tie.Need-returns-7
 returns-7 c = no-verdict _ _ _ _ _ (c .before .before .before .before .before .before .before .if1 .left) (c .before .before .before .before .before .before .if2 .left) (c .before .before .before .before .before .if3 .left) (c .before .before .before .if4 .left) (c .before .if5 .left) (c .if6 .left)
 
