@@ -1,1 +1,3 @@
+mod Masking
+mod Four
 mod Writing

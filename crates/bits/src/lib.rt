@@ -1,8 +1,9 @@
 // Bit fields of any width up to 16, most significant bit first: read from bytes, and written to bytes, each byte stored once.
 ghost use mathlib.Core.Path.{_≡_};
-ghost use Prim.Native.Nat.{_+_, _*_, _≤_, _<_, _^_};
+ghost use Prim.Native.Nat.{_+_, _*_, _/_, _%_, _≤_, _<_, _^_};
 ghost use lib.ListN.{length, getD};
-ghost use Rattle.record_laws.specs.Window.{valueAt, fourAt};
+ghost use Rattle.record_laws.specs.Window.{valueAt, wordAt};
+ghost use Rattle.bits.specs.Four.{fourRead};
 ghost use Rattle.bits.specs.Pending.{Put, Flushed, Finished, wordStored};
 
 /// Bits on their way into bytes: whole bytes are stored before byte `at`, and the low `have` bits of `acc` are not stored yet.
@@ -12,32 +13,65 @@ pub struct Pending {
     pub at: usize,
 }
 
-fn wide(b: u8) -> u32
+fn wide(b: u8) -> u64
     ensures { λ r. ⌜ (r ≡ b) × (r < 256) ⌝ }
 {
-    b as u32
+    b as u64
 }
 
 // The byte at q, or 0 past the end.
-fn byte_at(s: &[u8], q: usize) -> u32
+fn byte_at(s: &[u8], q: usize) -> u64
     ensures { λ r. ⌜ (r ≡ getD (now (s .entry)) q 0) × (r < 256) ⌝ }
 {
     if q < s.len() { wide(s[q]) } else { 0 }
 }
 
-// Four bytes from q on as one number, 0 past the end.
-fn four_at(s: &[u8], q: usize) -> u32
-    requires { ⌜ q < 2 ^ 61 ⌝ }
-    ensures { λ r. ⌜ r ≡ fourAt (now (s .entry)) q ⌝ }
+// Four bytes as one number.
+fn joined(a: u64, b: u64, c: u64, d: u64) -> u64
+    requires { ⌜ (a < 256) × (b < 256) × (c < 256) × (d < 256) ⌝ }
+    ensures { λ r. ⌜ r ≡ ((a * 256 + b) * 256 + c) * 256 + d ⌝ }
 {
-    if q + 3 < s.len() {
-        wide(s[q]) * 16777216 + wide(s[q + 1]) * 65536 + wide(s[q + 2]) * 256 + wide(s[q + 3])
-    } else {
-        byte_at(s, q) * 16777216
-            + byte_at(s, q + 1) * 65536
-            + byte_at(s, q + 2) * 256
-            + byte_at(s, q + 3)
+    a * 16777216 + b * 65536 + c * 256 + d
+}
+
+// Four bytes from q on as one number.
+fn four_inside(s: &[u8], q: usize) -> u64
+    requires { ⌜ q + 4 ≤ length (now s) ⌝ }
+    ensures { λ r. ⌜ (r ≡ wordAt 4 (now (s .entry)) q) × (r < 2 ^ 32) ⌝ }
+{
+    joined(wide(s[q]), wide(s[q + 1]), wide(s[q + 2]), wide(s[q + 3]))
+}
+
+// Four bytes from q on as one number, 0 past the end.
+fn four_at(s: &[u8], q: usize) -> u64
+    requires { ⌜ q < 2 ^ 61 ⌝ }
+    ensures { λ r. ⌜ r ≡ wordAt 4 (now (s .entry)) q ⌝ }
+{
+    if q + 4 <= s.len() {
+        return four_inside(s, q);
     }
+    joined(
+        byte_at(s, q),
+        byte_at(s, q + 1),
+        byte_at(s, q + 2),
+        byte_at(s, q + 3),
+    )
+}
+
+// Eight bytes from q on as one number.
+fn eight_inside(s: &[u8], q: usize) -> u64
+    requires { ⌜ q + 8 ≤ length (now s) ⌝ }
+    ensures { λ r. ⌜ r ≡ wordAt 8 (now (s .entry)) q ⌝ }
+{
+    four_inside(s, q) * 4294967296 + four_inside(s, q + 4)
+}
+
+// The low `width` bits of a word.
+fn low_bits(word: u64, width: u32) -> u16
+    requires { ⌜ width ≤ 16 ⌝ }
+    ensures { λ r. ⌜ r ≡ word % 2 ^ width ⌝ }
+{
+    (word & ((1u64 << width) - 1)) as u16
 }
 
 // The number of `width` bits from bit `at` on.
@@ -46,8 +80,23 @@ fn read_field(s: &[u8], at: usize, width: u32) -> u32
     ensures { λ r. ⌜ r ≡ valueAt (now (s .entry)) at width ⌝ }
 {
     let o = (at % 8) as u32;
-    let word = four_at(s, at / 8) as u64;
-    ((word >> (32 - o - width)) & ((1u64 << width) - 1)) as u32
+    low_bits(four_at(s, at / 8) >> (32 - o - width), width) as u32
+}
+
+/// Reads four fields of one width from bit `at` on into four places from `i` on, by one word, the last field first.
+pub fn read_four(s: &[u8], at: usize, width: u32, out: &mut [u16], i: usize)
+    requires { ⌜ (1 ≤ width) × (width ≤ 14) × (at / 8 + 8 ≤ length (now s)) × (i + 4 ≤ length (now out)) ⌝ }
+    ensures { λ _. ⌜ now (out .exit) ≡ fourRead (now (s .entry)) at width (now (out .entry)) i ⌝ }
+{
+    let o = (at % 8) as u32;
+    let d = eight_inside(s, at / 8) >> (64 - o - 4 * width);
+    let c = d >> width;
+    let b = c >> width;
+    let a = b >> width;
+    out[i] = low_bits(a, width);
+    out[i + 1] = low_bits(b, width);
+    out[i + 2] = low_bits(c, width);
+    out[i + 3] = low_bits(d, width);
 }
 
 // Stores the low four bytes of a word.

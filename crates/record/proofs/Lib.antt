@@ -1,4 +1,5 @@
 mod Table
+mod Runs
 mod Reading
 mod Putting
 mod Packing

@@ -1,12 +1,14 @@
 // Packed records: lengths, field widths, and the entries' fields read and written from the bit where they start.
 ghost use mathlib.Core.Path.{_≡_};
 ghost use mathlib.Core.List.{_++_};
-ghost use Prim.Native.Nat.{_+_, _-_, _*_, _≤_, _<_, _^_};
-ghost use lib.ListN.{length, drop};
+ghost use Prim.Native.Nat.{_+_, _-_, _*_, _%_, _≤_, _<_, _^_, min};
+ghost use lib.ListN.{length, take, drop};
 ghost use Rattle.rules.specs.Vector.{Valid};
 ghost use Rattle.rules.specs.Record.{width, total, recordLength, recordOf, bitsOf, leafCount, anySet};
 ghost use Rattle.record_laws.specs.Fields.{Fit, entriesFrom};
 ghost use Rattle.record.specs.Entries.{PutEntries};
+ghost use Rattle.record.specs.Runs.{Fours, Run};
+ghost use Rattle.record.specs.Reading.{Left, Read};
 use bits::Pending;
 
 pub mod totals;
@@ -25,6 +27,28 @@ fn field_width(i: usize) -> u32
     ensures { λ r. ⌜ r ≡ width i ⌝ }
 {
     32 - u32::leading_zeros((2 * (i - 1)) as u32)
+}
+
+fn lesser(a: usize, b: usize) -> usize
+    ensures { λ r. ⌜ r ≡ min a b ⌝ }
+{
+    if a < b { a } else { b }
+}
+
+// Where the entries of one width from i on end, or end where they end later.
+fn run_end(i: usize, end: usize) -> usize
+    requires { ⌜ Fours i end × (i < end) × (end ≤ 1024) ⌝ }
+    ensures { λ r. ⌜ (i < r) × (r ≤ end) × Run i r ⌝ }
+{
+    lesser((1usize << (field_width(i) - 1)) + 1, end)
+}
+
+// Where the fours from entry `first` on end, so that `behind` entries at least follow them.
+fn fours_end(first: usize, behind: usize, n: usize) -> usize
+    requires { ⌜ (first ≤ n) × (n ≤ 1024) × (behind ≤ 1024) ⌝ }
+    ensures { λ r. ⌜ (first ≤ r) × (r ≤ n) × (r % 4 ≡ first % 4) × (first < r → r + behind ≤ n) ⌝ }
+{
+    first + (n - lesser(first + behind, n)) / 4 * 4
 }
 
 fn small(x: u32) -> u16
@@ -82,21 +106,65 @@ pub fn leaf_count(s: &[u8]) -> usize
     bits::field_at(s, 0, 11) as usize
 }
 
-/// Reads the n entries whose fields start at bit `start` into the front of `out`.
-pub fn read_entries(s: &[u8], start: usize, n: usize, out: &mut [u16])
+// Reads the entries from i to end one by one, the first of them from bit `at` on, and returns the bit behind them.
+fn read_singles(s: &[u8], at: usize, i: usize, end: usize, out: &mut [u16]) -> usize
+    requires { ⌜ Left (now s) at i end 0 (length (now out)) ⌝ }
+    ensures { λ r. ⌜ Read (now (s .entry)) at i end (now (out .entry)) r (now (out .exit)) ⌝ }
+{
+    let mut next = at;
+    let mut k = i;
+    while k < end {
+        let w = field_width(k);
+        out[k] = small(bits::field_at(s, next, w));
+        next += w as usize;
+        k += 1;
+    }
+    next
+}
+
+// The same for entries of one width, four by four. The 48 bits behind the entries let the last four lie in a word, too.
+fn read_run(s: &[u8], at: usize, i: usize, end: usize, out: &mut [u16]) -> usize
+    requires { ⌜ Left (now s) at i end 48 (length (now out)) × Run i end ⌝ }
+    ensures { λ r. ⌜ Read (now (s .entry)) at i end (now (out .entry)) r (now (out .exit)) ⌝ }
+{
+    let w = field_width(i);
+    let mut next = at;
+    let mut k = i;
+    while k < end {
+        bits::read_four(s, next, w, out, k);
+        next += 4 * (w as usize);
+        k += 4;
+    }
+    next
+}
+
+// The same for entries of any width, run by run.
+fn read_fours(s: &[u8], at: usize, i: usize, end: usize, out: &mut [u16]) -> usize
+    requires { ⌜ Left (now s) at i end 48 (length (now out)) × (i < end → Fours i end) ⌝ }
+    ensures { λ r. ⌜ Read (now (s .entry)) at i end (now (out .entry)) r (now (out .exit)) ⌝ }
+{
+    let mut next = at;
+    let mut k = i;
+    while k < end {
+        let e = run_end(k, end);
+        next = read_run(s, next, k, e, out);
+        k = e;
+    }
+    next
+}
+
+/// Reads the n entries whose fields start at bit `start` into the front of `out`, and returns the bit behind them.
+pub fn read_entries(s: &[u8], start: usize, n: usize, out: &mut [u16]) -> usize
     requires { ⌜ (1 ≤ n) × (n ≤ 1024) × (n ≤ length (now out)) ⌝ }
     requires { ⌜ (length (now s) ≤ 2 ^ 32) × (start + (total n - 11) ≤ 8 * length (now s)) ⌝ }
-    ensures { λ _. ⌜ now (out .exit) ≡ entriesFrom start n (now (s .entry)) ++ drop n (now (out .entry)) ⌝ }
+    ensures { λ r. ⌜ (r ≡ start + (total n - 11)) × (take n (now (out .exit)) ≡ entriesFrom start n (now (s .entry))) ⌝ }
 {
     out[0] = 0;
-    let mut at = start;
-    let mut i = 1;
-    while i < n {
-        let w = field_width(i);
-        out[i] = small(bits::field_at(s, at, w));
-        at += w as usize;
-        i += 1;
-    }
+    let first = lesser(5, n);
+    let last = fours_end(first, 12, n);
+    let fours = read_singles(s, start, 1, first, out);
+    let rest = read_fours(s, fours, first, last, out);
+    read_singles(s, rest, last, n, out)
 }
 
 /// Whether a bit is set from bit `at` on, in the last byte.

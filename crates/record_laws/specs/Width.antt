@@ -1,5 +1,5 @@
 -- How many bits a number needs, the width of an entry's field, and the totals of bits.
--- Main results: needed-lt, needed-unique, needed-leading, width-fits, total-one, total-last, record-length-most.
+-- Main results: needed-lt, needed-unique, needed-leading, width-fits, width-run, total-one, total-least, total-last, record-length-most.
 use mathlib.Core.Path.{_≡_, refl, sym, ap, _∙_}
 use mathlib.Core.Bool.{Bool, true, false}
 use Prim.Native.Nat.{ℕ, zero, suc, _+_, _-_, _*_, _/_, _%_, _^_, _≤_, _<_, max}
@@ -8,7 +8,7 @@ use native.Mathlib.Numerals.{add-one}
 use native.Mathlib.Omega.{arith}
 use lib.Dec.{lit<, ltb}
 use lib.Arith.{half-le}
-use lib.Pow.{pow-mono, shr-lt}
+use lib.Pow.{pow-add, pow-mono, shr-lt}
 use lib.Count.{leadingZeros}
 use borrow.Author.Tests.{ltb-true, ltb-false}
 use Rattle.rules.specs.Vector.{bound}
@@ -96,6 +96,32 @@ pub width-most : (i : ℕ) → i ≤ 1024 → width i ≤ 11
 unfolding width bound
 width-most i h = power-le (bitsNeeded (2 * (i - 1))) 11 (omega (arith, needed-least (2 * (i - 1))))
 
+-- from entry 5 on a field has at least 4 bits
+pub width-least : (i : ℕ) → 5 ≤ i → 4 ≤ width i
+unfolding width bound
+width-least i h = power-le 4 (bitsNeeded (2 * (i - 1))) (rw (pow-suc 2 (bitsNeeded (2 * (i - 1)))) (omega (arith, needed-lt (2 * (i - 1)))))
+
+half : (m : ℕ) → 1 ≤ m → 2 ^ m ≡ 2 * 2 ^ (m - 1)
+half m h = let e : m ≡ suc (m - 1) = omega arith in ap (λ (k : ℕ). 2 ^ k) e ∙ rw (pow-suc 2 (m - 1)) (omega arith)
+
+-- the entries from i on have one width up to the entry whose number is half of what the width holds
+pub width-below : (i : ℕ) → 5 ≤ i → i ≤ 2 ^ (width i - 1)
+unfolding width bound
+width-below i h = omega (arith, needed-lt (2 * (i - 1)), half (bitsNeeded (2 * (i - 1))) (omega (arith, width-least i h)))
+
+pub width-run : (i j : ℕ) → 5 ≤ i → i ≤ j → j ≤ 2 ^ (width i - 1) → width j ≡ width i
+unfolding width bound
+width-run i j h l m =
+    needed-unique (2 * (j - 1)) (bitsNeeded (2 * (i - 1)))
+    (omega (arith, half (bitsNeeded (2 * (i - 1))) (omega (arith, width-least i h))))
+    (omega (arith, needed-least (2 * (i - 1))))
+
+-- and that entry's number is a multiple of four
+pub width-fours : (i : ℕ) → 5 ≤ i → 2 ^ (width i - 1) % 4 ≡ 0
+width-fours i h =
+    let e : width i - 1 ≡ 2 + (width i - 3) = omega (arith, width-least i h) in
+    rw (e, pow-add 2 2 (width i - 3)) (omega arith)
+
 pub total-suc : (n : ℕ) → total (suc n) ≡ total n + width n
 unfolding total
 total-suc n = refl
@@ -121,6 +147,12 @@ pub total-add : (n k : ℕ) → total n ≤ total (n + k)
 unfolding total
 total-add n zero = rw add-zero (omega arith)
 total-add n (suc k) = rw add-suc (omega (arith, total-add n k))
+
+-- from entry 5 on each entry adds at least 4 bits
+pub total-least : (n k : ℕ) → 5 ≤ n → total n + 4 * k ≤ total (n + k)
+unfolding total
+total-least n zero h = rw (add-zero n) (omega arith)
+total-least n (suc k) h = rw add-suc (omega (arith, total-least n k h, width-least (n + k) (omega arith)))
 
 pub total-mono : (m n : ℕ) → m ≤ n → total m ≤ total n
 total-mono m n h = let e : m + (n - m) ≡ n = omega arith in rw e at (total-add m (n - m))

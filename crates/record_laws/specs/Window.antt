@@ -1,24 +1,25 @@
--- A bit field from four bytes: the value of w bits that start in the first of them.
--- Main definitions: valueAt, fourAt. Main results: value-four, value-lt.
+-- A bit field from a word: the value of w bits that start anywhere in k bytes, one law over the bytes, the offset and the width.
+-- Main definitions: valueAt, wordAt. Main results: value-word, value-lt, word-four, word-eight.
 use mathlib.Core.Path.{_≡_, refl, sym, ap, ap₂, _∙_}
-use mathlib.Core.List.{List, [], _∷_, _++_, append-assoc}
+use mathlib.Core.List.{List, [], _∷_, _++_}
 use Prim.Native.Nat.{ℕ, zero, suc, _+_, _-_, _*_, _/_, _%_, _^_, _≤_, _<_}
 use native.Mathlib.Nat.{add-zero, le-trans}
 use native.Mathlib.Omega.{arith}
-use lib.ListN.{length, take, drop, getD, replicate, length-append, length-take, length-drop, List·getD-eq-default}
-use lib.Seq.{drop-drop, drop-cons, take-append-le, drop-append-le}
+use lib.ListN.{length, take, drop, getD, replicate, length-append, length-take, length-drop, length-replicate, take-append-drop}
+use lib.Seq.{drop-drop, drop-cons, take-at, take-add, take-append-le, drop-append-le}
 use lib.Pow.{pow-mono}
 use Rattle.rules.specs.Record.{Bits, field, number, bitsOf}
-use Rattle.record_laws.specs.Number.{AreBits, are-append, are-take, are-drop, are-field, length-field, number-lt, number-of-field, number-append, number-part}
+use Rattle.record_laws.specs.Number.{AreBits, are-take, are-drop, length-field, number-lt, number-of-field, number-append, number-part}
 use Rattle.record_laws.specs.Bytes.{are-bits, length-bits, bits-append, drop-bits}
 
 -- the number of w bits from bit at on
 unfoldable pub valueAt : List ℕ → ℕ → ℕ → ℕ
 valueAt s at w = number (take w (drop at (bitsOf s)))
 
--- four bytes from byte q on as one number, 0 past the end
-unfoldable pub fourAt : List ℕ → ℕ → ℕ
-fourAt s q = getD s q 0 * 16777216 + getD s (q + 1) 0 * 65536 + getD s (q + 2) 0 * 256 + getD s (q + 3) 0
+-- k bytes from byte q on as one number, 0 past the end
+unfoldable pub wordAt : ℕ → List ℕ → ℕ → ℕ
+wordAt zero s q = 0
+wordAt (suc k) s q = wordAt k s q * 256 + getD s (q + k) 0
 
 pub value-lt : (s : List ℕ) (at w : ℕ) → valueAt s at w < 2 ^ w
 unfolding valueAt
@@ -27,98 +28,88 @@ value-lt s at w = le-trans (number-lt (take w (drop at (bitsOf s))) (are-take w 
     l : length (take w (drop at (bitsOf s))) ≤ w
     l = rw length-take (omega arith)
 
+-- four bytes
+pub word-four : (s : List ℕ) (q : ℕ) → wordAt 4 s q ≡ ((getD s q 0 * 256 + getD s (q + 1) 0) * 256 + getD s (q + 2) 0) * 256 + getD s (q + 3) 0
+unfolding wordAt
+word-four s q = rw add-zero (omega arith)
+
+-- and the four behind them
+pub word-eight : (s : List ℕ) (q : ℕ) → wordAt 8 s q ≡ wordAt 4 s q * 4294967296 + wordAt 4 s (q + 4)
+unfolding wordAt
+word-eight s q =
+    let a : q + 4 + 0 ≡ q + 4 = omega arith in
+    let b : q + 4 + 1 ≡ q + 5 = omega arith in
+    let c : q + 4 + 2 ≡ q + 6 = omega arith in
+    let d : q + 4 + 3 ≡ q + 7 = omega arith in
+    rw (a, b, c, d) (omega arith)
+
 -- bits within the first part of a row
 within : (fs rs : Bits) (o w : ℕ) → o + w ≤ length fs → take w (drop o (fs ++ rs)) ≡ take w (drop o fs)
 within fs rs o w l = rw (drop-append-le o fs rs (omega arith)) (take-append-le w (drop o fs) rs (rw length-drop (omega arith)))
 
--- the bits of four bytes
-abbrev fourBits : ℕ → ℕ → ℕ → ℕ → Bits
-fourBits x y z u = field 8 x ++ (field 8 y ++ (field 8 z ++ field 8 u))
+-- the bits of one byte
+byte-bits : (s : List ℕ) (j : ℕ) → j < length s → take 8 (drop (8 * j) (bitsOf s)) ≡ field 8 (getD s j 0)
+unfolding bitsOf
+byte-bits s j h =
+    ap (take 8) (drop-bits j s ∙ ap bitsOf (drop-cons s j 0 h))
+    ∙ take-at (field 8 (getD s j 0)) (bitsOf (drop (suc j) s)) 8 (length-field 8 (getD s j 0))
 
-module _ (x y z u : ℕ) (hx : x < 256) (hy : y < 256) (hz : z < 256) (hu : u < 256) where
-  four-lengths : length (fourBits x y z u) ≡ 32
-  four-lengths = simp (length-append, length-field)
+-- the number of the bits of k bytes
+word-number : (k : ℕ) (s : List ℕ) (q : ℕ) → ((i : ℕ) → getD s i 0 < 256) → q + k ≤ length s
+    → number (take (8 * k) (drop (8 * q) (bitsOf s))) ≡ wordAt k s q
+unfolding wordAt number
+word-number zero s q b l = refl
+word-number (suc k) s q b l =
+    ap (λ (n : ℕ). number (take n (drop (8 * q) (bitsOf s)))) more
+    ∙ ap number (take-add (8 * k) 8 (drop (8 * q) (bitsOf s)))
+    ∙ number-append (take (8 * k) (drop (8 * q) (bitsOf s))) (take 8 (drop (8 * k) (drop (8 * q) (bitsOf s))))
+    ∙ rw (last, length-field 8 (getD s (q + k) 0), number-of-field 8 (getD s (q + k) 0) (b (q + k)), word-number k s q b (omega arith))
+  where
+    more : 8 * suc k ≡ 8 * k + 8
+    more = omega arith
 
-  four-bits : AreBits (fourBits x y z u)
-  four-bits = are-append _ _ (are-field 8 x) (are-append _ _ (are-field 8 y) (are-append _ _ (are-field 8 z) (are-field 8 u)))
+    place : 8 * q + 8 * k ≡ 8 * (q + k)
+    place = omega arith
 
-  four-number : number (fourBits x y z u) ≡ x * 16777216 + y * 65536 + z * 256 + u
-  four-number =
-      rw (
-        number-append (field 8 x) (field 8 y ++ (field 8 z ++ field 8 u)),
-        number-append (field 8 y) (field 8 z ++ field 8 u),
-        number-append (field 8 z) (field 8 u),
-        length-append (field 8 y) (field 8 z ++ field 8 u),
-        length-append (field 8 z) (field 8 u),
-        length-field 8 y,
-        length-field 8 z,
-        length-field 8 u,
-        number-of-field 8 x hx,
-        number-of-field 8 y hy,
-        number-of-field 8 z hz,
-        number-of-field 8 u hu,
-      )
-      (omega arith)
-
-  four-front : (s : List ℕ) → bitsOf (x ∷ y ∷ z ∷ u ∷ s) ≡ fourBits x y z u ++ bitsOf s
-  unfolding bitsOf
-  four-front s = refl
-
-  front : (s : List ℕ) (o w : ℕ) → o + w ≤ 32
-      → number (take w (drop o (bitsOf (x ∷ y ∷ z ∷ u ∷ s)))) ≡ (x * 16777216 + y * 65536 + z * 256 + u) / 2 ^ (32 - o - w) % 2 ^ w
-  front s o w l =
-      let k : o + w ≤ length (fourBits x y z u) = rw four-lengths l in
-      ap (λ (bs : Bits). number (take w (drop o bs))) (four-front s)
-      ∙ ap number (within (fourBits x y z u) (bitsOf s) o w k)
-      ∙ number-part (fourBits x y z u) o w four-bits k
-      ∙ rw (four-lengths, four-number)
+    last : take 8 (drop (8 * k) (drop (8 * q) (bitsOf s))) ≡ field 8 (getD s (q + k) 0)
+    last =
+        ap (take 8) (drop-drop (8 * k) (8 * q) (bitsOf s) ∙ ap (λ (n : ℕ). drop n (bitsOf s)) place)
+        ∙ byte-bits s (q + k) (omega arith)
 
 -- zero bytes behind the end change no byte
-zeros : List ℕ
-zeros = 0 ∷ 0 ∷ 0 ∷ 0 ∷ []
+zeros-at : (k i : ℕ) → _≡_ {A = ℕ} (getD (replicate k 0) i 0) 0
+zeros-at zero i = refl
+zeros-at (suc k) zero = refl
+zeros-at (suc k) (suc i) = zeros-at k i
 
-padded-at : (s : List ℕ) (i : ℕ) → getD (s ++ zeros) i 0 ≡ getD s i 0
-unfolding zeros
-padded-at [] zero = refl
-padded-at [] (suc zero) = refl
-padded-at [] (suc (suc zero)) = refl
-padded-at [] (suc (suc (suc zero))) = refl
-padded-at [] (suc (suc (suc (suc i)))) = refl
-padded-at (b ∷ s) zero = refl
-padded-at (b ∷ s) (suc i) = padded-at s i
+padded-at : (s : List ℕ) (k i : ℕ) → getD (s ++ replicate k 0) i 0 ≡ getD s i 0
+padded-at [] k i = zeros-at k i
+padded-at (b ∷ s) k zero = refl
+padded-at (b ∷ s) k (suc i) = padded-at s k i
 
--- a byte, and what follows it
-padded-cons : (s : List ℕ) (q k : ℕ) → q + k < length s + 4 → drop (q + k) (s ++ zeros) ≡ getD s (q + k) 0 ∷ drop (q + suc k) (s ++ zeros)
-unfolding zeros
-padded-cons s q k l =
-    let e : suc (q + k) ≡ q + suc k = omega arith in
-    drop-cons (s ++ zeros) (q + k) 0 (rw length-append l)
-    ∙ ap₂ _∷_ (padded-at s (q + k)) (ap (λ (i : ℕ). drop i (s ++ zeros)) e)
+padded-word : (k : ℕ) (s : List ℕ) (j q : ℕ) → wordAt k (s ++ replicate j 0) q ≡ wordAt k s q
+unfolding wordAt
+padded-word zero s j q = refl
+padded-word (suc k) s j q = ap₂ (λ (x y : ℕ). x * 256 + y) (padded-word k s j q) (padded-at s j (q + k))
 
-padded-drop : (s : List ℕ) (q : ℕ) → q ≤ length s
-    → drop q (s ++ zeros) ≡ getD s q 0 ∷ getD s (q + 1) 0 ∷ getD s (q + 2) 0 ∷ getD s (q + 3) 0 ∷ drop (q + 4) (s ++ zeros)
-padded-drop s q l =
-    rw add-zero at (padded-cons s q 0 (omega arith))
-    ∙ ap (_∷_ (getD s q 0)) (padded-cons s q 1 (omega arith)
-    ∙ ap (_∷_ (getD s (q + 1) 0)) (padded-cons s q 2 (omega arith)
-    ∙ ap (_∷_ (getD s (q + 2) 0)) (padded-cons s q 3 (omega arith))))
-
--- a field of w bits from the four bytes where it starts
-pub value-four : (s : List ℕ) (at w : ℕ) → ((i : ℕ) → getD s i 0 < 256) → at + w ≤ 8 * length s → at % 8 + w ≤ 32
-    → valueAt s at w ≡ fourAt s (at / 8) / 2 ^ (32 - at % 8 - w) % 2 ^ w
-unfolding valueAt fourAt
-value-four s at w h l o =
-    ap number (sym (within (bitsOf s) (bitsOf zeros) at w (rw length-bits l)))
-    ∙ ap (λ (bs : Bits). number (take w bs)) start
-    ∙ front (getD s (at / 8) 0) (getD s (at / 8 + 1) 0) (getD s (at / 8 + 2) 0) (getD s (at / 8 + 3) 0) (h (at / 8)) (h (at / 8 + 1)) (h (at / 8 + 2)) (h (at / 8 + 3)) (drop (at / 8 + 4) (s ++ zeros)) (at % 8) w o
+-- a field of w bits behind o bits of k bytes
+pub value-word : (k : ℕ) (s : List ℕ) (q o w : ℕ) → ((i : ℕ) → getD s i 0 < 256) → 8 * q + o + w ≤ 8 * length s → o + w ≤ 8 * k
+    → valueAt s (8 * q + o) w ≡ wordAt k s q / 2 ^ (8 * k - o - w) % 2 ^ w
+unfolding valueAt
+value-word k s q o w b l f =
+    ap number (sym (within (bitsOf s) (bitsOf (replicate k 0)) (8 * q + o) w (rw length-bits l)))
+    ∙ ap (λ (bs : Bits). number (take w (drop (8 * q + o) bs))) (sym (bits-append s (replicate k 0)))
+    ∙ ap (λ (bs : Bits). number (take w bs)) (sym (drop-drop o (8 * q) all))
+    ∙ ap (λ (bs : Bits). number (take w (drop o bs))) (sym (take-append-drop (8 * k) (drop (8 * q) all)))
+    ∙ ap number (within word (drop (8 * k) (drop (8 * q) all)) o w (rw size f))
+    ∙ number-part word o w (are-take (8 * k) (drop (8 * q) all) (are-drop (8 * q) all (are-bits (s ++ replicate k 0)))) (rw size f)
+    ∙ rw (size, word-number k (s ++ replicate k 0) q (λ i. rw padded-at (b i)) (rw (length-append, length-replicate) (omega arith)), padded-word k s k q)
   where
-    e : at ≡ 8 * (at / 8) + at % 8
-    e = omega arith
+    all : Bits
+    all = bitsOf (s ++ replicate k 0)
 
-    start : drop at (bitsOf s ++ bitsOf zeros)
-        ≡ drop (at % 8) (bitsOf (getD s (at / 8) 0 ∷ getD s (at / 8 + 1) 0 ∷ getD s (at / 8 + 2) 0 ∷ getD s (at / 8 + 3) 0 ∷ drop (at / 8 + 4) (s ++ zeros)))
-    start =
-        ap (drop at) (sym (bits-append s zeros))
-        ∙ ap (λ (k : ℕ). drop k (bitsOf (s ++ zeros))) e
-        ∙ sym (drop-drop (at % 8) (8 * (at / 8)) (bitsOf (s ++ zeros)))
-        ∙ ap (drop (at % 8)) (drop-bits (at / 8) (s ++ zeros) ∙ ap bitsOf (padded-drop s (at / 8) (omega arith)))
+    word : Bits
+    word = take (8 * k) (drop (8 * q) all)
+
+    size : length word ≡ 8 * k
+    size = rw (length-take, length-drop, length-bits, length-append, length-replicate) (omega arith)

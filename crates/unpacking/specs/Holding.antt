@@ -1,13 +1,12 @@
 -- What a record of the right length holds.
 -- Main definition: Holds. Main results: fields-inside, padding-inside, entries-held, above-found, none-above.
 use mathlib.Core.Bool.{Bool, true, false}
-use mathlib.Core.List.{List, _++_}
+use mathlib.Core.List.{List}
 use mathlib.Core.Option.{none, some}
 use mathlib.Core.Path.{_≡_, refl, sym, ap, _∙_}
 use Prim.Native.Nat.{ℕ, _+_, _-_, _*_, _≤_, _<_, _^_}
 use native.Mathlib.Omega.{arith}
 use lib.ListN.{length, take, drop}
-use lib.Seq.{take-at}
 use Rattle.rules.specs.Vector.{fault}
 use Rattle.rules.specs.Record.{recordLength, total, entriesOf, padding, anySet, bitsOf}
 use Rattle.laws.specs.FromRecord.{Headed}
@@ -38,10 +37,9 @@ padding-inside {s} {n} b H e =
     let k = record-length-bits n in
     (omega (arith, record-length-most n (H .few)), omega arith, omega arith)
 
--- the entries that were read
-pub entries-held : (s : List ℕ) (n : ℕ) (xs rest : List ℕ) → xs ≡ entriesFrom 11 n s ++ rest → take n xs ≡ entriesOf n s
-entries-held s n xs rest e =
-    ap (take n) (e ∙ ap (λ (l : List ℕ). l ++ rest) (entries-from-header n s)) ∙ take-at (entriesOf n s) rest n (length-entries n s)
+-- the entries that were read, and where they end
+pub entries-held : (s : List ℕ) (n b : ℕ) (xs : List ℕ) → (b ≡ 11 + (total n - 11)) × (take n xs ≡ entriesFrom 11 n s) → (b ≡ total n) × (take n xs ≡ entriesOf n s)
+entries-held s n b xs e = (e .0 ∙ total-header n, e .1 ∙ entries-from-header n s)
 
 pub above-found : (s : List ℕ) (n i : ℕ) (xs : List ℕ) → take n xs ≡ entriesOf n s → i ≡ firstFault (take n xs) → i < n → fault 0 (entriesOf n s) ≡ some i
 above-found s n i xs e f h =

@@ -1,107 +1,61 @@
--- `record::read_entries` meets its contract. The loop keeps `Reading`; the measure is the number of entries left.
+-- `record::read_entries` meets its contract: the entries before the fours, the fours, and those behind them (`entries-read`).
 use native.Mathlib.Omega.{arith}
 use borrow.Author.Needs.{needs}
-use mathlib.Core.Path.{_≡_, refl, _∙_}
-use Prim.Native.Nat.{_-_}
-use lib.Seq.{drop-set-lt}
-use Rattle.record_laws.specs.Fields.{entriesFrom}
-use lib.ListN.{length-set}
-use Rattle.record_laws.specs.Width.{total-one}
-use Rattle.record.proofs.Reading.{Reading, first-entry, reading-fits, reading-small, reading-next}
+use mathlib.Core.Path.{_∙_}
+use Prim.Native.Nat.{_<_, _≤_}
+use lib.ListN.{length, set, length-set}
+use Rattle.record.proofs.Reading.{Onward, entries-left, onward-left, onward-words, onward-more, read-then, entries-read}
 use Rattle.record.proofs.read_entries.Statement.{statement}
 use Rattle.record.proofs.read_entries.Tie as tie
 
-abbrev Inv-loop : tie.InvT-loop
-Inv-loop s start n out₀ at₀ i₀ out at i = Reading s start n out₀ out at i
+-- what is left after each of the three parts
+begun : (c : tie.After-fours-end) → Onward (c .before .before .before .before .args .s .now) (c .before .before .before .before .args .start) 1 (c .before .before .before .before .args .n) 0 (set (c .before .before .before .before .args .out .now) 0 0) (c .before .before .before .before .args .start) 1 (set (c .before .before .before .before .args .out .now) 0 0)
+begun c = let a = c .before .before .before .before .args in entries-left (a .s .now) (a .start) (a .n) (a .out .now) (omega arith) (omega arith) (omega arith) (omega arith) (omega arith)
 
-abbrev μ-loop : tie.MeasureT-loop
-μ-loop s start n out₀ at₀ i₀ out at i = n - i
+on-fours : (c : tie.After-read-singles) → Onward (c .before .before .before .before .before .before .args .s .now) (c .before .before .before .before .before .before .args .start) 1 (c .before .before .before .before .before .before .args .n) 0 (set (c .before .before .before .before .before .before .args .out .now) 0 0) (c .read-singles .result) (c .before .before .before .lesser .result) (c .read-singles .last .1 .1 .1 .1 .0)
+on-fours c = onward-more (begun (c .before .before)) _ _ _ (omega arith) (omega arith) (c .read-singles .kept .1 .1 .1 .1 .0) (c .read-singles .ensures)
 
-slice-write-out : tie.Need-slice-write-out Inv-loop μ-loop
+on-rest : (c : tie.After-read-fours) → Onward (c .before .before .before .before .before .before .before .before .before .before .args .s .now) (c .before .before .before .before .before .before .before .before .before .before .args .start) 1 (c .before .before .before .before .before .before .before .before .before .before .args .n) 0 (set (c .before .before .before .before .before .before .before .before .before .before .args .out .now) 0 0) (c .read-fours .result) (c .before .before .before .before .before .before .fours-end .result) (c .read-fours .last .1 .1 .1 .1 .0)
+on-rest c = let e = c .before .before .before .before .before .before .fours-end .ensures in onward-more (on-fours (c .before .before .before .before)) _ _ _ (e .0) (e .1) (c .read-fours .kept .1 .1 .1 .1 .0) (c .read-fours .ensures)
+
+slice-write-out : tie.Need-slice-write-out
 slice-write-out c = search needs
 
-loop-holds : tie.Need-loop-holds Inv-loop μ-loop
-loop-holds c =
-    let a = c .before .before .args in
-    record {
-      some-read = search needs;
-      most = search needs;
-      few = search needs;
-      room = simp length-set (omega arith);
-      short = search needs;
-      ends = search needs;
-      place = rw total-one (omega arith);
-      same = refl;
-      done = first-entry (a .s .now) (a .start) (a .out .now) (omega arith);
-    }
+lesser-requires : tie.Need-lesser-requires
+lesser-requires c κs = search needs
 
-field-width-requires : tie.Need-field-width-requires Inv-loop μ-loop
-field-width-requires c κs = search needs
+fours-end-requires : tie.Need-fours-end-requires
+fours-end-requires c κs = search needs
 
-field-at-requires : tie.Need-field-at-requires Inv-loop μ-loop
-field-at-requires c κs =
-    let f = reading-fits (c .before .before .loop .inv) (c .before .loop-test .taken) in
-    rw (c .field-width .ensures) (search needs)
+read-singles-requires : tie.Need-read-singles-requires
+read-singles-requires c κs = onward-left (begun (c .before)) _ (omega arith) (omega arith)
 
-small-requires : tie.Need-small-requires Inv-loop μ-loop
-small-requires c κs = rw (c .field-at .ensures, c .before .field-width .ensures) (reading-small (c .before .before .before .loop .inv) (c .before .before .loop-test .taken))
-
-mul-out : tie.Need-mul-out Inv-loop μ-loop
-mul-out c = search needs
-
-slice-write-out-2 : tie.Need-slice-write-out-2 Inv-loop μ-loop
-slice-write-out-2 c = search needs
-
-cast-at : tie.Need-cast-at Inv-loop μ-loop
-cast-at c = search needs
-
-add-at : tie.Need-add-at Inv-loop μ-loop
-add-at c =
-    omega (
-      arith,
-      reading-fits (c .before .before .before .before .loop .inv) (c .before .before .before .loop-test .taken) .1,
-      c .before .before .field-width .ensures,
-      c .before .before .before .before .loop .inv .short,
+read-fours-requires : tie.Need-read-fours-requires
+read-fours-requires c κs =
+    let e = c .before .before .before .before .before .fours-end .ensures in
+    let l = c .before .before .before .before .before .before .lesser .ensures in (
+      onward-words _ (on-fours (c .before .before .before)) (omega arith) (omega arith) (λ h. (omega arith, e .3 h)),
+      λ h. record { from = omega arith; first = omega arith; last = omega arith },
     )
 
-add-i : tie.Need-add-i Inv-loop μ-loop
-add-i c = search needs
+read-singles-requires-2 : tie.Need-read-singles-requires-2
+read-singles-requires-2 c κs = onward-left (on-rest (c .before .before .before)) _ (omega (arith, c .before .before .before .before .before .before .before .before .before .fours-end .ensures .1)) (omega arith)
 
-loop-less : tie.Need-loop-less Inv-loop μ-loop
-loop-less c = search needs
+same-length : tie.Need-same-length
+same-length c = c .before .before .read-singles2 .kept .1 .1 .1 .1 .0 ∙ on-rest (c .before .before .before .before .before .before) .same ∙ simp length-set
 
-loop-again : tie.Need-loop-again Inv-loop μ-loop
-loop-again c =
-    rw (c .small .ensures, c .before .field-at .ensures, c .before .before .field-width .ensures)
-    (reading-next (c .before .before .before .before .loop .inv) (c .before .before .before .loop-test .taken))
-
-same-length : tie.Need-same-length Inv-loop μ-loop
-same-length c = c .before .loop .inv .same ∙ simp length-set
-
-returns : tie.Need-returns Inv-loop μ-loop
-unfolding entriesFrom
-returns c =
-    let a = c .before .before .before .before .args in
-    let e : c .before .loop .i ≡ a .n = omega arith in
-    c .before .loop .inv .done ∙ rw (e, drop-set-lt (a .n) (a .out .now) 0 0 (omega arith))
+returns : tie.Need-returns
+returns c = entries-read _ _ _ (c .before .before .before .before .before .before .before .before .before .before .before .before .before .before .before .before .args .out .now) _ _ (omega arith) (read-then (on-rest (c .before .before .before .before .before .before) .read) (c .before .before .read-singles2 .ensures))
 
 pub read-entries-spec : {M : Type 1} → statement M
 read-entries-spec =
     tie.close
     (tie.spec
-    Inv-loop
-    μ-loop
     slice-write-out
-    loop-holds
-    field-width-requires
-    field-at-requires
-    small-requires
-    mul-out
-    slice-write-out-2
-    cast-at
-    add-at
-    add-i
-    loop-less
-    loop-again
+    lesser-requires
+    fours-end-requires
+    read-singles-requires
+    read-fours-requires
+    read-singles-requires-2
     same-length
     returns)

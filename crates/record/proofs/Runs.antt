@@ -1,0 +1,34 @@
+-- Where a run of one width ends.
+-- Main results: run-to, fours-on.
+use mathlib.Core.Path.{_≡_, ap, _∙_}
+use Prim.Native.Nat.{ℕ, _+_, _-_, _*_, _%_, _^_, _≤_, _<_, min}
+use native.Mathlib.Nat.{one-mul, mod-eq-of-lt}
+use native.Mathlib.Omega.{arith}
+use lib.Pow.{pow-lt}
+use Rattle.rules.specs.Record.{width}
+use Rattle.record_laws.specs.Width.{width-below, width-run, width-fours}
+use Rattle.record.specs.Runs.{Fours, Run}
+
+-- the end of the entries of one width, as a shift makes it
+pub run-shift : (w : ℕ) → w ≤ 11 → 1 * 2 ^ (w - 1) % 2 ^ 64 ≡ 2 ^ (w - 1)
+run-shift w h = ap (λ (n : ℕ). n % 2 ^ 64) (one-mul (2 ^ (w - 1))) ∙ mod-eq-of-lt (pow-lt {i = w - 1} {j = 64} (omega arith))
+
+pub run-small : (w : ℕ) → w ≤ 11 → 2 ^ (w - 1) < 2 ^ 16
+run-small w h = pow-lt {i = w - 1} {j = 16} (omega arith)
+
+-- a run ends behind the last entry of its width, or where the fours end before
+pub run-to : (i end r : ℕ) → Fours i end → i < end → r ≡ min (2 ^ (width i - 1) + 1) end → (i < r) × (r ≤ end) × Run i r
+run-to i end r f h e =
+    let a = width-below i (f .from) in
+    let b = width-fours i (f .from) in (
+      omega arith,
+      omega arith,
+      record {
+        fours = record { from = f .from; first = f .first; last = omega (arith, f .last) };
+        one-width = λ j l m. width-run i j (f .from) l (omega arith);
+      },
+    )
+
+-- behind a run the fours go on
+pub fours-on : {i r end : ℕ} → Fours i end → i ≤ r → Run i r → Fours r end
+fours-on f l g = record { from = omega (arith, f .from); first = g .fours .last; last = f .last }
