@@ -10,3 +10,4 @@ pub mod Length
 pub mod Closed
 pub mod Bounds
 pub mod Unique
+pub mod Stores

@@ -13,7 +13,7 @@ use lib.Seq.{sets, length-sets, take-suc, length-take-le, take-all}
 use Rattle.rules.specs.Vector.{Valid, entry, bound}
 use Rattle.rules.specs.Newick.{digits}
 use Rattle.rules.specs.Listing.{commaed}
-use Rattle.newick.specs.Output.{Wrote}
+use Rattle.text_writer.specs.Output.{Wrote}
 use Rattle.line.proofs.Written.{wrote-same, wrote-behind}
 
 pub digits-at-most : (k x : ℕ) → length (digits k x) ≤ k

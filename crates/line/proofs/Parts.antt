@@ -9,7 +9,7 @@ use Rattle.rules.specs.Vector.{Valid}
 use Rattle.rules.specs.Tree.{treeOf}
 use Rattle.rules.specs.Newick.{digits, textOf}
 use Rattle.rules.specs.Listing.{commaed, lineOf}
-use Rattle.newick.specs.Output.{Wrote}
+use Rattle.text_writer.specs.Output.{Wrote}
 use Rattle.line.specs.Front.{frontOf, line-parts}
 use Rattle.line.proofs.Written.{wrote-both, wrote-behind, wrote-one}
 use Rattle.line.proofs.Commas.{digits-at-most, commaed-at-most}

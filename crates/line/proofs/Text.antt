@@ -16,7 +16,7 @@ use Rattle.laws.specs.FromVector.{within-bounds}
 use Rattle.laws.specs.TreeOf.{tree-leaves}
 use Rattle.vector.specs.Fault.{valid-no-fault}
 use Rattle.grammar.specs.Length.{text-length, text-length-most}
-use Rattle.newick.specs.Output.{Wrote}
+use Rattle.text_writer.specs.Output.{Wrote}
 
 -- the part of a list from a place on
 pub part-length : (xs : List ℕ) (at : ℕ) → length (take (length xs - at) (drop at xs)) ≡ length xs - at

@@ -20,7 +20,7 @@ use Rattle.rules.specs.Listing.{lineOf, lineFor, then}
 use Rattle.laws.specs.FromRecord.{under-two-bytes, no-leaf-record, many-leaf-record, wrong-record, Headed, entry-refused, padding-refused, record-accepted}
 use Rattle.record_laws.specs.Inverse.{length-entries}
 use Rattle.vector.specs.Fault.{no-fault-valid}
-use Rattle.newick.specs.Output.{Wrote}
+use Rattle.text_writer.specs.Output.{Wrote}
 use Rattle.trees.proofs.Room.{Meets, full-room}
 use Rattle.line.proofs.Parts.{line-at-most}
 

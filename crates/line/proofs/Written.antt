@@ -7,8 +7,8 @@ use native.Mathlib.Omega.{arith}
 use native.Mathlib.Numerals.{add-one}
 use lib.ListN.{length, set, length-append}
 use lib.Seq.{sets, length-sets}
-use Rattle.newick.specs.Output.{Wrote}
-use Rattle.newick.proofs.Took.{sets-append}
+use Rattle.text_writer.specs.Output.{Wrote}
+use Rattle.grammar.specs.Stores.{sets-append}
 
 module _ {l l₁ u : List ℕ} {at x : ℕ} (W : Wrote u at l l₁ x) where
   pub wrote-same : length l₁ ≡ length l

@@ -8,7 +8,7 @@ ghost use Rattle.rules.specs.Tree.{treeOf};
 ghost use Rattle.rules.specs.Newick.{textOf};
 ghost use Rattle.rules.specs.Answer.{reads, answer, after};
 ghost use Rattle.rules.specs.Listing.{commaed, lineOf, lineFor};
-ghost use Rattle.newick.specs.Output.{Wrote};
+ghost use Rattle.text_writer.specs.Output.{Wrote};
 ghost use Rattle.line.specs.Front.{frontOf};
 
 /// Writes a record's line to the front of `out`, or answers the refusal of the record. The longest line has 11,182 bytes.
@@ -41,7 +41,7 @@ fn write_front(v: &[u16], out: &mut [u8]) -> usize
     requires { ⌜ Valid (now v) × (length (now v) ≤ 1024) × (6 + 5 * length (now v) ≤ length (now out)) ⌝ }
     ensures { λ r. ⌜ Wrote (frontOf (now (v .entry))) 0 (now (out .entry)) (now (out .exit)) r ⌝ }
 {
-    let x = newick::write_label(v.len(), out, 0);
+    let x = text_writer::write_label(v.len(), out, 0);
     out[x] = 32;
     let y = write_entries(v, out, x + 1);
     out[y] = 32;
@@ -53,11 +53,11 @@ fn write_entries(v: &[u16], out: &mut [u8], at: usize) -> usize
     requires { ⌜ Valid (now v) × (length (now v) ≤ 1024) × (at + 5 * length (now v) ≤ length (now out)) ⌝ }
     ensures { λ r. ⌜ Wrote (commaed (now (v .entry))) at (now (out .entry)) (now (out .exit)) r ⌝ }
 {
-    let mut x = newick::write_label(vector::wide(v[0]), out, at);
+    let mut x = text_writer::write_label(vector::wide(v[0]), out, at);
     let mut i: usize = 1;
     while i < v.len() {
         out[x] = 44;
-        x = newick::write_label(vector::wide(v[i]), out, x + 1);
+        x = text_writer::write_label(vector::wide(v[i]), out, x + 1);
         i += 1;
     }
     x

@@ -2,6 +2,5 @@ pub mod Bytes
 pub mod Numbers
 pub mod Took
 pub mod Whole
-pub mod Writing
 pub mod Marking
 pub mod Numbering

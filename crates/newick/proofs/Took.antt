@@ -6,7 +6,6 @@ use mathlib.Core.List.{List, [], _∷_, _++_, append-assoc, map}
 use mathlib.Core.Option.{none}
 use Prim.Native.Nat.{ℕ, zero, suc, _+_, _-_, _*_, _≤_, _<_}
 use native.Mathlib.Omega.{arith}
-use native.Mathlib.Nat.{add-zero, add-suc, suc-add}
 use lib.Dec.{eqb}
 use lib.ListN.{length, getD, drop, set, length-append, length-map, length-drop}
 use lib.Seq.{sets}
@@ -17,16 +16,13 @@ use Rattle.grammar.specs.Reading.{Reading, Reader, read, broken, seq, andThen, 
 use Rattle.grammar.specs.Sound.{Reads, Outcome, Leaf, sound-label}
 use Rattle.grammar.specs.Labels.{label-labels, tail-labels, map-append}
 use Rattle.grammar.specs.Pairs.{pairCount, childCode, pairsFrom, pairs-length}
+use Rattle.grammar.specs.Stores.{sets-append}
 use Rattle.newick.specs.declared.Number.{Number}
 use Rattle.newick.specs.declared.Next.{Next}
 use Rattle.newick.specs.declared.Read.{Read}
 use Rattle.newick.specs.declared.Read.the-variants.{Node, Broken}
 use Rattle.newick.specs.Lent.{Ready, Whole, Took, Broke, Answers, Closing, closed, placed, children}
 use Rattle.newick.proofs.Bytes.{place-of, drop-byte, sign-there, sign-missing, label-none, node-label, node-pair, node-deep}
-
-pub sets-append : (l : List ℕ) (i : ℕ) (a b : List ℕ) → sets l i (a ++ b) ≡ sets (sets l i a) (i + length a) b
-sets-append l i [] b = rw add-zero
-sets-append l i (x ∷ a) b = rw (add-suc, ← suc-add) (sets-append (set l i x) (suc i) a b)
 
 -- what is recorded behind a record makes one record
 two-records : (l l₁ l₂ : List ℕ) (i j : ℕ) (x y : List ℕ) → l₁ ≡ sets l i x → j ≡ i + length x → l₂ ≡ sets l₁ j y → l₂ ≡ sets l i (x ++ y)

@@ -1,5 +1,4 @@
 pub mod Lent
 pub mod Marks
 pub mod Numbered
-pub mod Output
 pub mod Recorded

@@ -25,7 +25,7 @@ use Rattle.table_laws.specs.Tied.{tied, treeAt, wholeTree, tree-whole}
 use Rattle.table_laws.specs.Rows.{first, second, rows-length, tied-rows, renumber}
 use Rattle.table_laws.specs.Accepted.{pairs-below}
 use Rattle.table_laws.specs.Grown.{pairs-tree}
-use Rattle.newick.specs.Output.{Ordered, Wrote}
+use Rattle.text_writer.specs.Output.{Ordered, Wrote}
 
 -- the nodes after a row
 abbrev above : Clusters → ℕ → ℕ → ℕ → Clusters

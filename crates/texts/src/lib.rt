@@ -51,7 +51,7 @@ pub fn write_tree(v: &[u16], out: &mut [u8])
     let mut left = [0u16; 1024];
     let mut right = [0u16; 1024];
     table::rows_of(v, &mut left, &mut right);
-    newick::write_text(&left, &right, v.len(), out);
+    text_writer::write_text(&left, &right, v.len(), out);
 }
 
 // The vector of the tree with n leaves whose pairs are recorded, at the front of vector.

@@ -8,7 +8,7 @@ use Rattle.line.proofs.write_entries.Statement.{statement}
 use Rattle.line.proofs.write_entries.Tie as tie
 use Rattle.line.proofs.write_entries.Reads as reads
 use Rattle.line.proofs.write_entries.Lts as lts
-use Rattle.newick.proofs.write_label.Reads as write-label-reads
+use Rattle.text_writer.proofs.write_label.Reads as write-label-reads
 use Rattle.vector.proofs.wide.Reads as wide-reads
 
 abbrev Inv-loop : tie.InvT-loop

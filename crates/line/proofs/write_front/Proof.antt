@@ -9,7 +9,7 @@ use Rattle.line.proofs.write_front.Tie as tie
 use Rattle.line.proofs.write_front.Reads as reads
 use Rattle.line.proofs.write_front.Lts as lts
 use Rattle.line.proofs.write_entries.Reads as write-entries-reads
-use Rattle.newick.proofs.write_label.Reads as write-label-reads
+use Rattle.text_writer.proofs.write_label.Reads as write-label-reads
 
 -- src/lib.rt:44:9
 write-label-requires : tie.Need-write-label-requires

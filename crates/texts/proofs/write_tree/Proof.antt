@@ -5,7 +5,7 @@ use Rattle.texts.proofs.write_tree.Statement.{statement}
 use Rattle.texts.proofs.write_tree.Tie as tie
 use Rattle.texts.proofs.write_tree.Reads as reads
 use Rattle.texts.proofs.write_tree.Lts as lts
-use Rattle.newick.proofs.write_text.Reads as write-text-reads
+use Rattle.text_writer.proofs.write_text.Reads as write-text-reads
 use Rattle.table.proofs.rows_of.Reads as rows-of-reads
 
 -- src/lib.rt:53:23

@@ -1,20 +1,20 @@
 use native.Mathlib.Omega.{arith}
 use borrow.Author.Needs.{needs}
-use Rattle.newick.proofs.Writing.{wrote-pair, leaf-text, left-child, right-child, pair-text, pair-text-length}
+use Rattle.text_writer.proofs.Writing.{wrote-pair, leaf-text, left-child, right-child, pair-text, pair-text-length}
 use Rattle.rules.specs.Newick.{nodeText, pairText}
-use Rattle.newick.specs.Output.{Wrote}
+use Rattle.text_writer.specs.Output.{Wrote}
 use mathlib.Core.Path.{_≡_, _∙_, sym, ap, subst}
 use mathlib.Core.List.{List}
 use lib.ListN.{length, length-set}
 use Prim.Native.Nat.{ℕ, _-_, _<_}
 use borrow.Fn.Kinds.{In}
 use borrow.Fn.PlainCycle.{Measures, is, falls, and}
-use Rattle.newick.proofs.write_node.Reads as write-node
-use Rattle.newick.proofs.write_node.Kinds as write-node-kinds
-use Rattle.newick.proofs.+write_node.Lts-write_node as write-node-lts
-use Rattle.newick.proofs.write_label.Reads as write-label-reads
-use Rattle.newick.proofs.+write_node.{statement}
-use Rattle.newick.proofs.+write_node.Tie.{close}
+use Rattle.text_writer.proofs.write_node.Reads as write-node
+use Rattle.text_writer.proofs.write_node.Kinds as write-node-kinds
+use Rattle.text_writer.proofs.+write_node.Lts-write_node as write-node-lts
+use Rattle.text_writer.proofs.write_label.Reads as write-label-reads
+use Rattle.text_writer.proofs.+write_node.{statement}
+use Rattle.text_writer.proofs.+write_node.Tie.{close}
 
 abbrev μ-write-node : Measures 3 write-node-kinds.ps ℕ
 μ-write-node κs a = a .1 .1 .1 .0

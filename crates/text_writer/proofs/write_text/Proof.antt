@@ -1,15 +1,15 @@
 use native.Mathlib.Omega.{arith}
 use borrow.Author.Needs.{needs}
-use Rattle.newick.proofs.Writing.{text-room, wrote-end}
+use Rattle.text_writer.proofs.Writing.{text-room, wrote-end}
 use Rattle.table_laws.specs.Tied.{treeAt, wholeTree}
 use Prim.Native.Nat.{ℕ, _+_, _-_}
 use mathlib.Core.Path.{_≡_, refl, _∙_, sym, ap}
 use lib.ListN.{length, getD, length-set}
-use Rattle.newick.proofs.write_text.Statement.{statement}
-use Rattle.newick.proofs.write_text.Tie as tie
-use Rattle.newick.proofs.write_text.Reads as reads
-use Rattle.newick.proofs.write_text.Lts as lts
-use Rattle.newick.proofs.write_node.Reads as write-node-reads
+use Rattle.text_writer.proofs.write_text.Statement.{statement}
+use Rattle.text_writer.proofs.write_text.Tie as tie
+use Rattle.text_writer.proofs.write_text.Reads as reads
+use Rattle.text_writer.proofs.write_text.Lts as lts
+use Rattle.text_writer.proofs.write_node.Reads as write-node-reads
 
 -- src/lib.rt:262:45
 sub-write-node : tie.Need-sub-write-node

@@ -14,8 +14,8 @@ use Rattle.rules.specs.Newick.{digits, pairText, nodeText, textOf}
 use Rattle.rules.specs.Tree.{Tree, leaf, node, least}
 use Rattle.table_laws.specs.Tied.{treeAt, tree-leaf, tree-pair}
 use Rattle.grammar.specs.Length.{pair-length}
-use Rattle.newick.specs.Output.{Wrote, Ordered}
-use Rattle.newick.proofs.Took.{sets-append}
+use Rattle.text_writer.specs.Output.{Wrote, Ordered}
+use Rattle.grammar.specs.Stores.{sets-append}
 
 module _ (l : List ℕ) (at : ℕ) (w : List ℕ) where
   pub wrote-1 : (a : ℕ) → w ≡ a ∷ [] → Wrote w at l (set l at a) (at + 1)

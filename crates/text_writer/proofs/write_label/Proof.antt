@@ -1,14 +1,14 @@
 use native.Mathlib.Omega.{arith}
 use borrow.Author.Needs.{needs}
-use Rattle.newick.proofs.Writing.{wrote-1, wrote-2, wrote-3, wrote-4}
+use Rattle.text_writer.proofs.Writing.{wrote-1, wrote-2, wrote-3, wrote-4}
 use Rattle.grammar.specs.Decimal.{digits-one, digits-two, digits-three, digits-four}
 use Prim.Native.Nat.{_/_}
 use mathlib.Core.Path.{_∙_, sym, ap}
 use lib.ListN.{length, length-set}
-use Rattle.newick.proofs.write_label.Statement.{statement}
-use Rattle.newick.proofs.write_label.Tie as tie
-use Rattle.newick.proofs.write_label.Reads as reads
-use Rattle.newick.proofs.write_label.Lts as lts
+use Rattle.text_writer.proofs.write_label.Statement.{statement}
+use Rattle.text_writer.proofs.write_label.Tie as tie
+use Rattle.text_writer.proofs.write_label.Reads as reads
+use Rattle.text_writer.proofs.write_label.Lts as lts
 
 -- src/lib.rt:202:24
 cast-out : tie.Need-cast-out
