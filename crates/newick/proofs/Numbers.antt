@@ -1,61 +1,67 @@
--- A label read digit by digit. Main results: longer-step, longer-stop, whole-zero, whole-more.
+-- A label read digit by digit. Main definitions: Digits. Main results: digits-one, digits-more, digits-stop, digits-full, whole-zero.
 use mathlib.Core.Path.{_≡_, refl, ap, sym, subst, _∙_}
 use mathlib.Core.Bool.{Bool, true, false}
 use mathlib.Core.List.{List}
-use Prim.Native.Nat.{ℕ, zero, suc, _+_, _-_, _*_, _≤_, _<_}
+use Prim.Native.Nat.{ℕ, zero, suc, _+_, _-_, _*_, _/_, _%_, _≤_, _<_}
 use native.Mathlib.Omega.{arith}
 use lib.ListN.{length, getD, drop}
 use Rattle.rules.specs.Newick.{isDigit}
 use Rattle.rules.specs.Tree.{leaf}
 use Rattle.grammar.specs.Reading.{Reading, read, moreDigits, labelRead}
-use Rattle.newick.specs.declared.Number.{Number}
-use Rattle.newick.specs.Lent.{Longer, Whole}
-use Rattle.newick.proofs.Bytes.{digit-range, place-of, place-digit, longer-yes, longer-no, label-zero, label-more}
+use Rattle.grammar.specs.Complete.{no-more}
+use Rattle.newick.specs.Lent.{Same, Whole}
+use Rattle.newick.proofs.Bytes.{digit-range, place-of, place-digit, no-digit, longer-yes, label-zero, label-more}
 
-pub longer-step : (s : List ℕ) (l : Number) (c : ℕ) → c ≡ getD s (l .at) 0 → isDigit c ≡ true
-    → Longer s l (record { at = l .at + 1; value = 10 * l .value + (c - 48) })
-longer-step s l c e h =
-    let g : isDigit (getD s (l .at) 0) ≡ true = rw e at h in
-    let p : l .at < length s = place-digit s (l .at) g in
-    let r : (48 ≤ c) × (c ≤ 57) = digit-range c h in
+-- the first i digits of a label make x, and k more may follow
+pub record Digits (s : List ℕ) (at i k x : ℕ) : Type 0 where
+  pub within : at + i ≤ length s
+  pub reads : labelRead (drop at s) ≡ moreDigits k x (drop (at + i) s)
+
+-- a label of i digits
+whole : {s : List ℕ} {at : ℕ} (i x : ℕ) → 1 ≤ i → x < 10000 → at + i ≤ length s → labelRead (drop at s) ≡ read (drop (at + i) s) (leaf x) → Whole s at (i * 16384 + x)
+whole {s} {at} i x one small within e =
+    let q : (i * 16384 + x) / 16384 ≡ i = omega arith in
+    let m : (i * 16384 + x) % 16384 ≡ x = omega arith in
     record {
       within = omega arith;
-      ahead = omega arith;
+      some-digit = omega arith;
       small = omega arith;
-      digits = λ k. rw e (longer-yes s (l .at) (l .value) g k);
+      reads = rw (q, m) e;
     }
 
-pub longer-stop : (s : List ℕ) (l : Number) (c : ℕ) → c ≡ getD s (l .at) 0 → isDigit c ≡ false → l .at ≤ length s → Longer s l l
-longer-stop s l c e h w =
-    record {
-      within = w;
-      ahead = omega arith;
-      small = omega arith;
-      digits = longer-no s (l .at) (l .value) (rw e at h);
-    }
+module _ (signs s : List ℕ) (same : Same signs s) where
+  pub whole-zero : (at c : ℕ) → c ≡ getD signs at 0 → c ≡ 48 → Whole s at 16384
+  whole-zero at c e z =
+      let q : getD s at 0 ≡ 48 = sym (same at) ∙ sym e ∙ z in
+      let p : at < length s = place-of s at 48 (omega arith) q in
+      whole 1 0 (omega arith) (omega arith) (omega arith) (label-zero s at q)
 
-pub whole-zero : (s : List ℕ) (at c : ℕ) → c ≡ getD s at 0 → c ≡ 48 → Whole s at (record { at = at + 1; value = c - 48 })
-whole-zero s at c e z =
-    let p : at < length s = place-of s at 48 (omega arith) (sym e ∙ z) in
-    let v : 0 ≡ c - 48 = omega arith in
-    record {
-      within = omega arith;
-      ahead = omega arith;
-      small = omega arith;
-      reads = label-zero s at (sym e ∙ z) ∙ ap (λ (x : ℕ). read (drop (at + 1) s) (leaf x)) v;
-    }
+  pub digits-one : (at c x : ℕ) → c ≡ getD signs at 0 → isDigit (getD signs at 0) ≡ true → (c ≡ 48 → ⊥) → x ≡ 10 * 0 + (c - 48) → Digits s at 1 3 x
+  digits-one at c x e h z v =
+      let g : isDigit (getD s at 0) ≡ true = ap isDigit (sym (same at)) ∙ h in
+      let p : at < length s = place-digit s at g in
+      let w : getD s at 0 - 48 ≡ x = omega (arith, same at) in
+      record {
+        within = omega arith;
+        reads = label-more s at g (λ q. z (e ∙ same at ∙ q)) ∙ ap (λ (k : ℕ). moreDigits 3 k (drop (at + 1) s)) w;
+      }
 
-pub whole-more : (s : List ℕ) (at c : ℕ) → c ≡ getD s at 0 → isDigit (getD s at 0) ≡ true → (c ≡ 48 → ⊥) → (two three four : Number)
-    → Longer s (record { at = at + 1; value = c - 48 }) two → Longer s two three → Longer s three four → Whole s at four
+  pub digits-more : {at i k x : ℕ} (c y : ℕ) → Digits s at i (suc k) x → c ≡ getD signs (at + i) 0 → isDigit c ≡ true → y ≡ 10 * x + (c - 48) → Digits s at (i + 1) k y
+  digits-more {at} {i} {k} {x} c y D e h v =
+      let g : isDigit (getD s (at + i) 0) ≡ true = ap isDigit (sym (e ∙ same (at + i))) ∙ h in
+      let p : at + i < length s = place-digit s (at + i) g in
+      let w : 10 * x + (getD s (at + i) 0 - 48) ≡ y = omega (arith, same (at + i)) in
+      let j : at + i + 1 ≡ at + (i + 1) = omega arith in
+      record {
+        within = omega arith;
+        reads = D .reads ∙ longer-yes s (at + i) x g k ∙ ap (λ (z : ℕ). moreDigits k z (drop (at + i + 1) s)) w ∙ ap (λ (z : ℕ). moreDigits k y (drop z s)) j;
+      }
+
+  pub digits-stop : {at i k x : ℕ} (c : ℕ) → Digits s at i (suc k) x → 1 ≤ i → x < 10000 → c ≡ getD signs (at + i) 0 → isDigit c ≡ false → Whole s at (i * 16384 + x)
+  digits-stop {at} {i} {k} {x} c D one small e h =
+      let g : isDigit (getD s (at + i) 0) ≡ false = ap isDigit (sym (e ∙ same (at + i))) ∙ h in
+      whole i x one small (D .within) (D .reads ∙ no-more (suc k) x (drop (at + i) s) (no-digit s (at + i) g))
+
+pub digits-full : {s : List ℕ} {at x : ℕ} → Digits s at 4 0 x → x < 10000 → Whole s at (65536 + x)
 unfolding moreDigits
-whole-more s at c e h z two three four a b d =
-    let r : (48 ≤ getD s at 0) × (getD s at 0 ≤ 57) = digit-range (getD s at 0) h in
-    let x : two .value ≤ 99 = omega (arith, a .small) in
-    let y : three .value ≤ 999 = omega (arith, b .small) in
-    record {
-      within = d .within;
-      ahead = omega (arith, a .ahead, b .ahead, d .ahead);
-      small = omega (arith, d .small);
-      reads =
-          label-more s at h (λ q. z (e ∙ q)) ∙ ap (λ (k : ℕ). moreDigits 3 (k - 48) (drop (at + 1) s)) (sym e) ∙ a .digits 2 ∙ b .digits 1 ∙ d .digits 0;
-    }
+digits-full {s} {at} {x} D small = whole 4 x (omega arith) small (D .within) (D .reads)

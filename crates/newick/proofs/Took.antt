@@ -4,10 +4,11 @@ use mathlib.Core.Path.{_≡_, refl, ap, ap₂, sym, subst, _∙_}
 use mathlib.Core.Bool.{Bool, true, false, cond}
 use mathlib.Core.List.{List, [], _∷_, _++_, append-assoc, map}
 use mathlib.Core.Option.{none}
-use Prim.Native.Nat.{ℕ, zero, suc, _+_, _-_, _*_, _≤_, _<_}
+use mathlib.Core.Logic.{_⊎_, inl, inr}
+use Prim.Native.Nat.{ℕ, zero, suc, _+_, _-_, _*_, _/_, _%_, _≤_, _<_}
 use native.Mathlib.Omega.{arith}
 use lib.Dec.{eqb}
-use lib.ListN.{length, getD, drop, set, length-append, length-map, length-drop}
+use lib.ListN.{length, getD, drop, set, length-append, length-map, length-drop, length-set}
 use lib.Seq.{sets}
 use borrow.Author.Tests.{eqb-true, eqb-false}
 use Rattle.rules.specs.Newick.{isDigit, Placed, Label, labelsFrom, ending}
@@ -17,12 +18,9 @@ use Rattle.grammar.specs.Sound.{Reads, Outcome, Leaf, sound-label}
 use Rattle.grammar.specs.Labels.{label-labels, tail-labels, map-append}
 use Rattle.grammar.specs.Pairs.{pairCount, childCode, pairsFrom, pairs-length}
 use Rattle.grammar.specs.Stores.{sets-append}
-use Rattle.newick.specs.declared.Number.{Number}
 use Rattle.newick.specs.declared.Next.{Next}
-use Rattle.newick.specs.declared.Read.{Read}
-use Rattle.newick.specs.declared.Read.the-variants.{Node, Broken}
-use Rattle.newick.specs.Lent.{Ready, Whole, Took, Broke, Answers, Closing, closed, placed, children}
-use Rattle.newick.proofs.Bytes.{place-of, drop-byte, sign-there, sign-missing, label-none, node-label, node-pair, node-deep}
+use Rattle.newick.specs.Lent.{Ready, Whole, Took, Broke, lastPair, Answers, Closing, closed, placed, children}
+use Rattle.newick.proofs.Bytes.{digit-range, place-of, drop-byte, sign-there, sign-missing, label-none, node-label, node-pair, node-deep}
 
 -- what is recorded behind a record makes one record
 two-records : (l l₁ l₂ : List ℕ) (i j : ℕ) (x y : List ℕ) → l₁ ≡ sets l i x → j ≡ i + length x → l₂ ≡ sets l₁ j y → l₂ ≡ sets l i (x ++ y)
@@ -31,28 +29,48 @@ two-records l l₁ l₂ i j x y e f g = g ∙ ap₂ (λ (m : List ℕ) (k : ℕ)
 leaf-value : {x y : ℕ} → leaf x ≡ leaf y → x ≡ y
 leaf-value e = cc
 
-module _ (s : List ℕ) (at n p : ℕ) (ls ps : List ℕ) where
+-- what a packed answer says of the pair recorded last
+last-pair : (x n p : ℕ) → x < 4294967296 → p < 65536 → lastPair ((n * 65536 + p) * 4294967296 + x) ≡ record { at = x; labels = n; pairs = p; child = 16383 + p }
+last-pair x n p h g =
+    let e : ((n * 65536 + p) * 4294967296 + x) % 4294967296 ≡ x = omega arith in
+    let f : ((n * 65536 + p) * 4294967296 + x) / 281474976710656 ≡ n = omega arith in
+    let m : ((n * 65536 + p) * 4294967296 + x) / 4294967296 ≡ n * 65536 + p = omega arith in
+    let k : ((n * 65536 + p) * 4294967296 + x) / 4294967296 % 65536 ≡ p = rw m (omega arith) in
+    λ i. record { at = e i; labels = f i; pairs = k i; child = 16383 + k i }
+
+module _ {signs s : List ℕ} {at n p : ℕ} {ls ps : List ℕ} (y : Ready signs s at n p ls ps) where
   -- a label is recorded
-  pub took-label : (d : ℕ) (l : Number) → (getD s at 0 ≡ 40 → ⊥) → Ready s at n p → Whole s at l
-      → Took (nodeRead d) s at n p ls ps (set ls n (at * 16384 + l .value)) ps (record { at = l .at; labels = n + 1; pairs = p; child = l .value })
+  pub took-label : (d l : ℕ) → isDigit (getD signs at 0) ≡ true → Whole s at l
+      → Took (nodeRead d) signs s at n p ls ps (set ls n (at * 16384 + l % 16384)) ps (record { at = at + l / 16384; labels = n + 1; pairs = p; child = l % 16384 })
   unfolding pairCount childCode pairsFrom
-  took-label d l h y w = go (subst (Outcome labelRead Leaf (drop at s)) (w .reads) (sound-label (drop at s)))
+  took-label d l h w = go (subst (Outcome labelRead Leaf (drop at s)) (w .reads) (sound-label (drop at s)))
     where
-      go : Reads labelRead Leaf (drop at s) (drop (l .at) s) (leaf (l .value))
-          → Took (nodeRead d) s at n p ls ps (set ls n (at * 16384 + l .value)) ps (record { at = l .at; labels = n + 1; pairs = p; child = l .value })
+      no-bracket : getD s at 0 ≡ 40 → ⊥
+      no-bracket q = let r : (48 ≤ getD signs at 0) × (getD signs at 0 ≤ 57) = digit-range (getD signs at 0) h in omega (arith, y .same at)
+
+      go : Reads labelRead Leaf (drop at s) (drop (at + l / 16384) s) (leaf (l % 16384))
+          → Took (nodeRead d) signs s at n p ls ps (set ls n (at * 16384 + l % 16384)) ps (record { at = at + l / 16384; labels = n + 1; pairs = p; child = l % 16384 })
       go r =
-          let x : l .value ≡ r .good .0 = leaf-value (r .good .2) in
-          let q : labelsFrom at none (r .bytes) ≡ (at, l .value) ∷ [] = label-labels (r .good .1) at ∙ ap (λ (k : ℕ). (at, k) ∷ []) (sym x) in
-          let a : l .at ≡ at + length (r .bytes) =
-          omega (arith, y .within, w .within, w .ahead, length-drop at s, length-drop (l .at) s, ap length (r .split), length-append (r .bytes) (drop (l .at) s)) in
+          let x : l % 16384 ≡ r .good .0 = leaf-value (r .good .2) in
+          let q : labelsFrom at none (r .bytes) ≡ (at, l % 16384) ∷ [] = label-labels (r .good .1) at ∙ ap (λ (k : ℕ). (at, k) ∷ []) (sym x) in
+          let a : at + l / 16384 ≡ at + length (r .bytes) =
+          omega (arith, y .within, w .within, length-drop at s, length-drop (at + l / 16384) s, ap length (r .split), length-append (r .bytes) (drop (at + l / 16384) s)) in
           record {
             bytes = r .bytes;
-            tree = leaf (l .value);
+            tree = leaf (l % 16384);
             split = r .split;
             ahead = a;
-            room = omega (arith, w .ahead);
-            reads = node-label d s at h ∙ w .reads;
-            ready = record { short = y .short; within = w .within; labels = omega (arith, y .labels, w .ahead); pairs = omega (arith, y .pairs, w .ahead) };
+            room = omega (arith, w .some-digit);
+            reads = node-label d s at no-bracket ∙ w .reads;
+            ready = record {
+              same = y .same;
+              short = y .short;
+              within = w .within;
+              labels = omega (arith, y .labels, w .some-digit);
+              pairs = omega (arith, y .pairs);
+              label-room = length-set ls n (at * 16384 + l % 16384) ∙ y .label-room;
+              pair-room = y .pair-room;
+            };
             label-count = rw q;
             label-record = rw q;
             pair-count = omega arith;
@@ -61,63 +79,81 @@ module _ (s : List ℕ) (at n p : ℕ) (ls ps : List ℕ) where
             child-bound = omega (arith, w .small);
           }
 
-  pub broke-deep : (d : ℕ) → getD s at 0 ≡ 40 → d ≡ 0 → Ready s at n p → Broke (nodeRead d) s at at
-  broke-deep d e z y = record { within = y .within; breaks = node-deep d s at e z }
+  pub broke-deep : (d : ℕ) → getD signs at 0 ≡ 40 → d ≡ 0 → Broke (nodeRead d) s at at
+  broke-deep d e z = record { within = y .within; breaks = node-deep d s at (sym (y .same at) ∙ e) z }
 
-  pub broke-sign : (d : ℕ) → (getD s at 0 ≡ 40 → ⊥) → isDigit (getD s at 0) ≡ false → Ready s at n p → Broke (nodeRead d) s at at
-  broke-sign d h z y = record { within = y .within; breaks = node-label d s at h ∙ label-none s at z }
+  pub broke-sign : (d : ℕ) → (getD signs at 0 ≡ 40 → ⊥) → isDigit (getD signs at 0) ≡ false → Broke (nodeRead d) s at at
+  broke-sign d h z =
+      record { within = y .within; breaks = node-label d s at (λ q. h (y .same at ∙ q)) ∙ label-none s at (ap isDigit (sym (y .same at)) ∙ z) }
 
   -- a pair is a bracket and what its reader takes
-  pub answers-node : (d : ℕ) → getD s at 0 ≡ 40 → (d ≡ 0 → ⊥) → (ls′ ps′ : List ℕ) (r : Read)
-      → Answers (pairRead (nodeRead (d - 1))) s (at + 1) n p ls ps ls′ ps′ r → Answers (nodeRead d) s at n p ls ps ls′ ps′ r
+  pub answers-node : (d : ℕ) → getD signs at 0 ≡ 40 → (d ≡ 0 → ⊥) → {ls′ ps′ : List ℕ} {r : ℕ}
+      → Answers (pairRead (nodeRead (d - 1))) signs s (at + 1) n p ls ps ls′ ps′ r → Answers (nodeRead d) signs s at n p ls ps ls′ ps′ r
   unfolding labelsFrom isDigit ending
-  answers-node d e z ls′ ps′ (Node r) t =
-      record {
-        bytes = 40 ∷ t .bytes;
-        tree = t .tree;
-        split = drop-byte s at (place-of s at 40 (omega arith) e) ∙ ap₂ _∷_ e (t .split);
-        ahead = omega (arith, t .ahead);
-        room = omega (arith, t .room);
-        reads = node-pair d s at e z ∙ t .reads;
-        ready = t .ready;
-        label-count = t .label-count;
-        label-record = t .label-record;
-        pair-count = t .pair-count;
-        pair-record = t .pair-record;
-        child = t .child;
-        child-bound = t .child-bound;
-      }
-  answers-node d e z ls′ ps′ (Broken k) t = record { within = t .within; breaks = node-pair d s at e z ∙ t .breaks }
+  answers-node d e z (inl (small, t)) =
+      let f : getD s at 0 ≡ 40 = sym (y .same at) ∙ e in
+      inl (
+        small,
+        record {
+          bytes = 40 ∷ t .bytes;
+          tree = t .tree;
+          split = drop-byte s at (place-of s at 40 (omega arith) f) ∙ ap₂ _∷_ f (t .split);
+          ahead = omega (arith, t .ahead);
+          room = omega (arith, t .room);
+          reads = node-pair d s at f z ∙ t .reads;
+          ready = t .ready;
+          label-count = t .label-count;
+          label-record = t .label-record;
+          pair-count = t .pair-count;
+          pair-record = t .pair-record;
+          child = t .child;
+          child-bound = t .child-bound;
+        },
+      )
+  answers-node d e z (inr (k, q, b)) =
+      inr (k, q, record { within = b .within; breaks = node-pair d s at (sym (y .same at) ∙ e) z ∙ b .breaks })
 
-  pub broke-first : (d k : ℕ) → Broke (nodeRead d) s at k → Broke (pairRead (nodeRead d)) s at k
+  pub ready-inside : getD signs at 0 ≡ 40 → Ready signs s (at + 1) n p ls ps
+  ready-inside e =
+      let q : at < length s = place-of s at 40 (omega arith) (sym (y .same at) ∙ e) in
+      record { same = y .same; short = y .short; within = omega arith; labels = omega (arith, y .labels); pairs = omega (arith, y .pairs); label-room = y .label-room; pair-room = y .pair-room }
+
+  pub broke-first : (d : ℕ) {k : ℕ} → Broke (nodeRead d) s at k → Broke (pairRead (nodeRead d)) s at k
   unfolding pairRead seq andThen
-  broke-first d k b = record { within = b .within; breaks = rw (b .breaks) }
+  broke-first d b = record { within = b .within; breaks = rw (b .breaks) }
 
-  module _ (d : ℕ) (ls₁ ps₁ : List ℕ) (a : Next) (t : Took (nodeRead d) s at n p ls ps ls₁ ps₁ a) where
-    pub broke-comma : (getD s (a .at) 0 ≡ 44 → ⊥) → Broke (pairRead (nodeRead d)) s at (a .at)
+  module _ (d : ℕ) {ls₁ ps₁ : List ℕ} {a : Next} (t : Took (nodeRead d) signs s at n p ls ps ls₁ ps₁ a) where
+    pub broke-comma : (getD signs (a .at) 0 ≡ 44 → ⊥) → Broke (pairRead (nodeRead d)) s at (a .at)
     unfolding pairRead seq andThen
-    broke-comma h = record { within = t .ready .within; breaks = rw (t .reads, sign-missing 44 (t .tree) s (a .at) h) }
+    broke-comma h = record { within = t .ready .within; breaks = rw (t .reads, sign-missing 44 (t .tree) s (a .at) (λ q. h (y .same (a .at) ∙ q))) }
 
-    module _ (comma : getD s (a .at) 0 ≡ 44) where
-      pub ready-second : Ready s (a .at + 1) (a .labels) (a .pairs)
+    module _ (comma′ : getD signs (a .at) 0 ≡ 44) where
+      comma : getD s (a .at) 0 ≡ 44
+      comma = sym (y .same (a .at)) ∙ comma′
+
+      pub ready-second : Ready signs s (a .at + 1) (a .labels) (a .pairs) ls₁ ps₁
       ready-second =
           let q : a .at < length s = place-of s (a .at) 44 (omega arith) comma in
-          record { short = t .ready .short; within = omega arith; labels = omega (arith, t .ready .labels); pairs = omega (arith, t .ready .pairs) }
+          let w = t .ready in
+          record { same = y .same; short = y .short; within = omega arith; labels = omega (arith, w .labels); pairs = omega (arith, w .pairs); label-room = w .label-room; pair-room = w .pair-room }
 
-      pub broke-second : (k : ℕ) → Broke (nodeRead d) s (a .at + 1) k → Broke (pairRead (nodeRead d)) s at k
+      pub broke-second : {k : ℕ} → Broke (nodeRead d) s (a .at + 1) k → Broke (pairRead (nodeRead d)) s at k
       unfolding pairRead seq andThen
-      broke-second k b =
+      broke-second b =
           record { within = b .within; breaks = rw (t .reads, sign-there 44 (t .tree) s (a .at) (omega arith) comma, b .breaks) }
 
-      module _ (ls₂ ps₂ : List ℕ) (b : Next) (u : Took (nodeRead d) s (a .at + 1) (a .labels) (a .pairs) ls₁ ps₁ ls₂ ps₂ b) where
-        pub closing : Closing (length s) a b
+      module _ {ls₂ ps₂ : List ℕ} {b : Next} (u : Took (nodeRead d) signs s (a .at + 1) (a .labels) (a .pairs) ls₁ ps₁ ls₂ ps₂ b) where
+        pub closing : Closing a b ps₂
         closing =
+            let v = t .ready in
+            let w = u .ready in
             record {
-              short = t .ready .short;
-              within = u .ready .within;
-              pairs = u .ready .pairs;
-              first = omega (arith, t .child-bound, t .ready .pairs, t .ready .within, t .ready .short);
-              second = omega (arith, u .child-bound, u .ready .pairs, u .ready .within, u .ready .short);
+              place = omega (arith, w .within, w .short);
+              labels = omega (arith, w .labels, w .within, w .short);
+              pairs = omega (arith, w .pairs, w .within, w .short);
+              first = omega (arith, t .child-bound, v .pairs, v .within, v .short);
+              second = omega (arith, u .child-bound, w .pairs, w .within, w .short);
+              room = w .pair-room;
             }
 
         broke-close : (getD s (b .at) 0 ≡ 41 → ⊥) → Broke (pairRead (nodeRead d)) s at (b .at)
@@ -130,8 +166,8 @@ module _ (s : List ℕ) (at n p : ℕ) (ls ps : List ℕ) where
 
         -- both children and the pair itself are recorded
         took-pair : getD s (b .at) 0 ≡ 41
-            → Took (pairRead (nodeRead d)) s at n p ls ps ls₂ (set ps₂ (b .pairs) (children (a .child, b .child)))
-            (record { at = b .at + 1; labels = b .labels; pairs = b .pairs + 1; child = 16384 + b .pairs })
+            → Took (pairRead (nodeRead d)) signs s at n p ls ps ls₂ (set ps₂ (b .pairs) (children (a .child, b .child)))
+            (record { at = b .at + 1; labels = b .labels; pairs = b .pairs + 1; child = 16383 + (b .pairs + 1) })
         unfolding pairRead seq andThen pairCount childCode pairsFrom
         took-pair e =
             let L : List Placed = labelsFrom at none (t .bytes) in
@@ -164,7 +200,15 @@ module _ (s : List ℕ) (at n p : ℕ) (ls ps : List ℕ) where
               ahead = omega (arith, t .ahead, u .ahead, w);
               room = omega (arith, t .room, u .room, w);
               reads = rw (t .reads, sign-there 44 (t .tree) s (a .at) (omega arith) comma, u .reads) (sign-there 41 (node (t .tree) (u .tree)) s (b .at) (omega arith) e);
-              ready = record { short = t .ready .short; within = omega arith; labels = omega (arith, u .ready .labels); pairs = omega (arith, u .ready .pairs, t .room, u .room, u .pair-count, t .pair-count, t .ahead, u .ahead, t .ready .pairs) };
+              ready = record {
+                same = y .same;
+                short = y .short;
+                within = omega arith;
+                labels = omega (arith, u .ready .labels);
+                pairs = omega (arith, u .ready .pairs, t .room, u .room, u .pair-count, t .pair-count, t .ahead, u .ahead, y .pairs);
+                label-room = u .ready .label-room;
+                pair-room = length-set ps₂ (b .pairs) (children (a .child, b .child)) ∙ u .ready .pair-room;
+              };
               label-count = omega (arith, t .label-count, u .label-count, ap length q, length-append L M, ap length m);
               label-record =
                   two-records ls ls₁ ls₂ n (a .labels) (map placed L) (map placed M) (t .label-record) (t .label-count ∙ ap (λ (k : ℕ). n + k) (sym (length-map L placed)))
@@ -179,26 +223,36 @@ module _ (s : List ℕ) (at n p : ℕ) (ls ps : List ℕ) where
             }
 
         -- what the bracket that closes makes of it
-        pub answers-pair : (r : Read) (ps₃ : List ℕ) → (r, ps₃) ≡ closed s a b ps₂ → Answers (pairRead (nodeRead d)) s at n p ls ps ls₂ ps₃ r
+        pub answers-pair : {r : ℕ} {ps₃ : List ℕ} → (r, ps₃) ≡ closed signs a b ps₂ → Answers (pairRead (nodeRead d)) signs s at n p ls ps ls₂ ps₃ r
         unfolding closed
-        answers-pair r ps₃ e = go (eqb (getD s (b .at) 0) 41) refl e
+        answers-pair {r} {ps₃} e = go (eqb (getD signs (b .at) 0) 41) refl e
           where
-            go : (x : Bool) → eqb (getD s (b .at) 0) 41 ≡ x
-                → _≡_ {A = Read × List ℕ} (r, ps₃)
-                (cond x (Node (record { at = b .at + 1; labels = b .labels; pairs = b .pairs + 1; child = 16384 + b .pairs }), set ps₂ (b .pairs) (children (a .child, b .child))) (Broken (b .at), ps₂))
-                → Answers (pairRead (nodeRead d)) s at n p ls ps ls₂ ps₃ r
-            go true h q = subst (λ (o : Read × List ℕ). Answers (pairRead (nodeRead d)) s at n p ls ps ls₂ (o .1) (o .0)) (sym q) (took-pair (eqb-true (getD s (b .at) 0) 41 h))
-            go false h q = subst (λ (o : Read × List ℕ). Answers (pairRead (nodeRead d)) s at n p ls ps ls₂ (o .1) (o .0)) (sym q) (broke-close (eqb-false (getD s (b .at) 0) 41 h))
+            go : (x : Bool) → eqb (getD signs (b .at) 0) 41 ≡ x
+                → _≡_ {A = ℕ × List ℕ} (r, ps₃)
+                (cond x ((b .labels * 65536 + (b .pairs + 1)) * 4294967296 + (b .at + 1), set ps₂ (b .pairs) (children (a .child, b .child))) (9223372036854775808 + b .at, ps₂))
+                → Answers (pairRead (nodeRead d)) signs s at n p ls ps ls₂ ps₃ r
+            go true h q =
+                let w = closing in
+                let k : r ≡ (b .labels * 65536 + (b .pairs + 1)) * 4294967296 + (b .at + 1) = ap (λ (o : ℕ × List ℕ). o .0) q in
+                let small : r < 9223372036854775808 = omega (arith, w .place, w .labels, w .pairs) in
+                let last : record { at = b .at + 1; labels = b .labels; pairs = b .pairs + 1; child = 16383 + (b .pairs + 1) } ≡ lastPair r =
+                sym (ap lastPair k ∙ last-pair (b .at + 1) (b .labels) (b .pairs + 1) (omega (arith, w .place)) (omega (arith, w .pairs))) in
+                inl (
+                  small,
+                  subst (λ (z : Next). Took (pairRead (nodeRead d)) signs s at n p ls ps ls₂ ps₃ z) last
+                      (subst (λ (z : List ℕ). Took (pairRead (nodeRead d)) signs s at n p ls ps ls₂ z (record { at = b .at + 1; labels = b .labels; pairs = b .pairs + 1; child = 16383 + (b .pairs + 1) }))
+                      (ap (λ (o : ℕ × List ℕ). o .1) (sym q)) (took-pair (sym (y .same (b .at)) ∙ eqb-true (getD signs (b .at) 0) 41 h))),
+                )
+            go false h q =
+                inr (b .at, ap (λ (o : ℕ × List ℕ). o .0) q, broke-close (λ z. eqb-false (getD signs (b .at) 0) 41 h (y .same (b .at) ∙ z)))
 
 -- an answer that is known to be the one or the other
-pub took : {f : Reader} {s : List ℕ} {at n p : ℕ} {ls ps ls′ ps′ : List ℕ} {r : Read} {a : Next} → r ≡ Node a → Answers f s at n p ls ps ls′ ps′ r
-    → Took f s at n p ls ps ls′ ps′ a
-took {f} {s} {at} {n} {p} {ls} {ps} {ls′} {ps′} e h = subst (Answers f s at n p ls ps ls′ ps′) e h
+pub took : {f : Reader} {signs s : List ℕ} {at n p : ℕ} {ls ps ls′ ps′ : List ℕ} {r : ℕ} {a : Next} → a ≡ lastPair r → r < 9223372036854775808
+    → Answers f signs s at n p ls ps ls′ ps′ r → Took f signs s at n p ls ps ls′ ps′ a
+took e h (inl t) = rw e (t .1)
+took e h (inr (k, q, b)) = absurd (omega arith)
 
-pub broke : {f : Reader} {s : List ℕ} {at : ℕ} (n p : ℕ) (ls ps ls′ ps′ : List ℕ) (r : Read) {k : ℕ} → r ≡ Broken k → Answers f s at n p ls ps ls′ ps′ r → Broke f s at k
-broke {f} {s} {at} n p ls ps ls′ ps′ r e h = subst (Answers f s at n p ls ps ls′ ps′) e h
-
-pub ready-inside : {s : List ℕ} {at n p : ℕ} → Ready s at n p → getD s at 0 ≡ 40 → Ready s (at + 1) n p
-ready-inside {s} {at} y e =
-    let q : at < length s = place-of s at 40 (omega arith) e in
-    record { short = y .short; within = omega arith; labels = omega (arith, y .labels); pairs = omega (arith, y .pairs) }
+pub broke : {f : Reader} {signs s : List ℕ} {at n p : ℕ} {ls ps ls′ ps′ : List ℕ} {r : ℕ} → 9223372036854775808 ≤ r → Answers f signs s at n p ls ps ls′ ps′ r
+    → (k : ℕ) × (r ≡ 9223372036854775808 + k) × Broke f s at k
+broke h (inl (small, t)) = absurd (omega arith)
+broke h (inr b) = b

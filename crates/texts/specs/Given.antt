@@ -6,7 +6,7 @@ use mathlib.Core.Path.{_≡_, refl, sym, ap, _∙_, subst}
 use Prim.Native.Nat.{ℕ, _-_, _≤_, _<_}
 use native.Mathlib.Omega.{arith}
 use lib.ListN.{length, take, length-take}
-use lib.Seq.{take-at}
+use lib.Seq.{take-at, length-sets}
 use Rattle.rules.specs.Tree.{Tree, size}
 use Rattle.rules.specs.Order.{vectorOf}
 use Rattle.rules.specs.Newick.{Text, labelsOf, labelFault}
@@ -15,9 +15,9 @@ use Rattle.rules.specs.Calls.{refuseCount, refuseAt, fromLabels, FromText, too-
 use Rattle.laws.specs.Guards.{many-leaves, some-leaves, refuse-at, pass-at}
 use Rattle.laws.specs.OneToOne.{every-tree}
 use Rattle.grammar.specs.Labels.{text-label-count}
-use Rattle.grammar.specs.Pairs.{size-pairs}
+use Rattle.grammar.specs.Pairs.{pairsFrom, size-pairs}
 use Rattle.newick.specs.declared.Next.{Next}
-use Rattle.newick.specs.Lent.{TextTook}
+use Rattle.newick.specs.Lent.{placed, children, TextTook}
 use Rattle.newick.specs.Marks.{unplaced}
 use Rattle.newick.specs.Recorded.{TableOf, recordedRows, labels-recorded, leaves-recorded, table-recorded}
 use Rattle.texts.specs.declared.Given.{Given}
@@ -43,6 +43,13 @@ module _ {s ls ps ls′ ps′ : List ℕ} {r : Next} (short : length s ≤ 6056)
 
   pub some-labels : 1 ≤ r .labels
   some-labels = omega (arith, T .label-count, text-label-count (T .reads-as), size-pairs (T .tree))
+
+  -- the records are as long as they were
+  pub labels-kept : length ls ≡ 1024 → 1024 ≡ length ls′
+  labels-kept e = sym (ap length (T .label-record) ∙ length-sets ls 0 (map placed (labelsOf s)) ∙ e)
+
+  pub pairs-kept : length ps ≡ 1024 → 1024 ≡ length ps′
+  pairs-kept e = sym (ap length (T .pair-record) ∙ length-sets ps 0 (map children (pairsFrom 0 (T .tree))) ∙ e)
 
   pub too-many : 1024 < r .labels → FromText s (refuses 1 0)
   unfolding fromLabels

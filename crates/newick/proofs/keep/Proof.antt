@@ -1,31 +1,27 @@
-use native.Mathlib.Omega.{arith}
-use borrow.Author.Needs.{needs}
 use mathlib.Core.Path.{sym}
 use lib.Seq.{set-out}
+use native.Mathlib.Omega.{arith}
+use borrow.Author.Needs.{needs}
 use Rattle.newick.proofs.keep.Statement.{statement}
 use Rattle.newick.proofs.keep.Tie as tie
 use Rattle.newick.proofs.keep.Reads as reads
 use Rattle.newick.proofs.keep.Lts as lts
 
--- src/lib.rt:84:9
+-- src/lib.rt:93:9
 mul-list : tie.Need-mul-list
 mul-list c = search needs
 
--- src/lib.rt:84:9
-slice-write-list : tie.Need-slice-write-list
-slice-write-list c = search needs
+-- src/lib.rt:93:9
+element-write-list : tie.Need-element-write-list
+element-write-list c = search needs
 
--- src/lib.rt:80:1
-same-length : tie.Need-same-length
-same-length c = search needs
-
--- src/lib.rt:80:1
+-- src/lib.rt:88:1
 returns : tie.Need-returns
 returns c = search needs
 
--- src/lib.rt:80:1
+-- src/lib.rt:88:1
 returns-2 : tie.Need-returns-2
-returns-2 c = sym (set-out (c .before .args .list .now) (c .before .args .k) (c .before .args .x) (c .if1 .left))
+returns-2 c = sym (set-out (c .before .args .list .now) (c .before .args .k) (c .before .args .x) (omega (arith, c .before .pre, c .if1 .left)))
 
 pub keep-spec : {M : Type 1} → statement M
-keep-spec = tie.close (tie.spec mul-list slice-write-list same-length returns returns-2)
+keep-spec = tie.close (tie.spec mul-list element-write-list returns returns-2)

@@ -1,0 +1,57 @@
+use Prim.Native.Nat.{_-_}
+use lib.ListN.{length}
+use Rattle.newick.proofs.Whole.{Copied, copied-start, copied-next, copied-end}
+use native.Mathlib.Omega.{arith}
+use borrow.Author.Needs.{needs}
+use Rattle.newick.proofs.copy.Statement.{statement}
+use Rattle.newick.proofs.copy.Tie as tie
+use Rattle.newick.proofs.copy.Reads as reads
+use Rattle.newick.proofs.copy.Lts as lts
+
+abbrev Inv-loop : tie.InvT-loop
+Inv-loop s signs₀ i₀ signs i = Copied s signs i
+
+abbrev μ-loop : tie.MeasureT-loop
+μ-loop s signs₀ i₀ signs i = length s - i
+
+-- src/lib.rt:245:5
+loop-holds : tie.Need-loop-holds Inv-loop μ-loop
+loop-holds c = copied-start (c .pre .0) (c .pre .1) (c .pre .2)
+
+-- src/lib.rt:246:20
+shared-slice-read-signs : tie.Need-shared-slice-read-signs Inv-loop μ-loop
+shared-slice-read-signs c = search needs
+
+-- src/lib.rt:246:9
+element-write-signs : tie.Need-element-write-signs Inv-loop μ-loop
+element-write-signs c = omega (arith, c .before .before .loop .inv .short, c .before .loop-test .taken)
+
+-- src/lib.rt:247:9
+add-i : tie.Need-add-i Inv-loop μ-loop
+add-i c = search needs
+
+-- src/lib.rt:245:5
+loop-less : tie.Need-loop-less Inv-loop μ-loop
+loop-less c = search needs
+
+-- src/lib.rt:245:5
+loop-again : tie.Need-loop-again Inv-loop μ-loop
+loop-again c = copied-next _ _ _ (c .before .before .loop .inv) (c .before .loop-test .taken)
+
+-- src/lib.rt:240:1
+returns : tie.Need-returns Inv-loop μ-loop
+returns c = copied-end _ _ _ (c .before .loop .inv) (c .loop-test .left)
+
+pub copy-spec : {M : Type 1} → statement M
+copy-spec =
+    tie.close
+    (tie.spec
+    Inv-loop
+    μ-loop
+    loop-holds
+    shared-slice-read-signs
+    element-write-signs
+    add-i
+    loop-less
+    loop-again
+    returns)
