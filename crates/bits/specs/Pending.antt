@@ -1,38 +1,28 @@
--- Bits on their way into bytes, and what it means to put a field behind them and to finish.
--- Main definitions: Held, Put, Flushed, Finished, wordStored.
+-- Bits on their way into bytes, and what it means to put a field behind them.
+-- Main definitions: Held, Put, wordStored.
 use mathlib.Core.Path.{_≡_}
 use mathlib.Core.List.{List, _++_}
-use Prim.Native.Nat.{ℕ, _+_, _*_, _/_, _%_, _^_, _≤_, _<_}
-use lib.ListN.{length, drop, set}
+use Prim.Native.Nat.{ℕ, _+_, _*_, _/_, _%_, _^_, _<_}
+use lib.ListN.{length, take, drop, set}
 use Rattle.rules.specs.Record.{Bits, field, number, bytesOf}
 use Rattle.record_laws.specs.Number.{AreBits}
 use Rattle.bits.specs.declared.Pending.{Pending}
 
--- The bits are held: whole bytes in the buffer, which was old before, and the rest as the low bits of acc.
-pub record Held (bits : Bits) (old : List ℕ) (acc have at : ℕ) (buffer : List ℕ) : Type 0 where
+-- The bits are in the buffer, zero bits following to the end of byte at, and those of that byte are the low bits of acc.
+pub record Held (bits : Bits) (acc have at : ℕ) (buffer : List ℕ) : Type 0 where
   pub are : AreBits bits
-  pub stored : buffer ≡ bytesOf at bits ++ drop at old
   pub count : length bits ≡ 8 * at + have
   pub value : acc % 2 ^ have ≡ number (drop (8 * at) bits)
+  pub stored : take (at + 1) buffer ≡ bytesOf (at + 1) bits
 
 -- One field more is held, whatever bits were held before it.
 pub record Put (p : Pending) (width x : ℕ) (before : List ℕ) (r : Pending) (after : List ℕ) : Type 0 where
-  pub below : r .have < 32
-  pub count : 8 * r .at + r .have ≡ 8 * p .at + p .have + width
-  pub held : (bits : Bits) (old : List ℕ) → Held bits old (p .acc) (p .have) (p .at) before
-      → Held (bits ++ field width x) old (r .acc) (r .have) (r .at) after
-
--- The same bits are held, fewer than a byte of them not stored.
-pub record Flushed (p : Pending) (before : List ℕ) (r : Pending) (after : List ℕ) : Type 0 where
   pub below : r .have < 8
-  pub count : 8 * r .at + r .have ≡ 8 * p .at + p .have
-  pub held : (bits : Bits) (old : List ℕ) → Held bits old (p .acc) (p .have) (p .at) before → Held bits old (r .acc) (r .have) (r .at) after
+  pub count : 8 * r .at + r .have ≡ 8 * p .at + p .have + width
+  pub held : (bits : Bits) → Held bits (p .acc) (p .have) (p .at) before → Held (bits ++ field width x) (r .acc) (r .have) (r .at) after
 
--- The bits that were held are in the buffer, filled up to a whole byte.
-pub record Finished (p : Pending) (before after : List ℕ) : Type 0 where
-  pub filled : (bits : Bits) (old : List ℕ) → Held bits old (p .acc) (p .have) (p .at) before
-      → after ≡ bytesOf ((length bits + 7) / 8) bits ++ drop ((length bits + 7) / 8) old
-
--- four bytes of a word in a buffer
+-- eight bytes of a word in a buffer
 unfoldable pub wordStored : List ℕ → ℕ → ℕ → List ℕ
-wordStored s at w = set (set (set (set s at (w / 2 ^ 24 % 256)) (at + 1) (w / 2 ^ 16 % 256)) (at + 2) (w / 2 ^ 8 % 256)) (at + 3) (w % 256)
+wordStored s at w =
+    set (set (set (set (set (set (set (set s at (w / 2 ^ 56 % 256)) (at + 1) (w / 2 ^ 48 % 256)) (at + 2) (w / 2 ^ 40 % 256)) (at + 3) (w / 2 ^ 32 % 256))
+    (at + 4) (w / 2 ^ 24 % 256)) (at + 5) (w / 2 ^ 16 % 256)) (at + 6) (w / 2 ^ 8 % 256)) (at + 7) (w % 256)

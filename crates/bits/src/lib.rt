@@ -1,12 +1,12 @@
-// Bit fields of any width up to 16, most significant bit first: read from bytes, and written to bytes, each byte stored once.
+// Bit fields of any width, most significant bit first, read from bytes and written to bytes, by words of four or eight bytes.
 ghost use mathlib.Core.Path.{_≡_};
-ghost use Prim.Native.Nat.{_+_, _*_, _/_, _%_, _≤_, _<_, _^_};
+ghost use Prim.Native.Nat.{ℕ, _+_, _*_, _/_, _%_, _≤_, _<_, _^_};
 ghost use lib.ListN.{length, getD};
 ghost use Rattle.record_laws.specs.Window.{valueAt, wordAt};
-ghost use Rattle.bits.specs.Four.{fourRead};
-ghost use Rattle.bits.specs.Pending.{Put, Flushed, Finished, wordStored};
+ghost use Rattle.bits.specs.Four.{fourRead, fourOf};
+ghost use Rattle.bits.specs.Pending.{Put, wordStored};
 
-/// Bits on their way into bytes: whole bytes are stored before byte `at`, and the low `have` bits of `acc` are not stored yet.
+/// Bits on their way into bytes: those before byte `at` are whole, and byte `at` begins with the low `have` bits of `acc`.
 pub struct Pending {
     pub acc: u64,
     pub have: u32,
@@ -99,63 +99,70 @@ pub fn read_four(s: &[u8], at: usize, width: u32, out: &mut [u16], i: usize)
     out[i + 3] = low_bits(d, width);
 }
 
-// Stores the low four bytes of a word.
+// Stores the eight bytes of a word.
 fn store_word(out: &mut [u8], at: usize, word: u64)
-    requires { ⌜ at + 4 ≤ length (now out) ⌝ }
+    requires { ⌜ at + 8 ≤ length (now out) ⌝ }
     ensures { λ _. ⌜ now (out .exit) ≡ wordStored (now (out .entry)) at word ⌝ }
 {
-    out[at] = ((word >> 24) % 256) as u8;
-    out[at + 1] = ((word >> 16) % 256) as u8;
-    out[at + 2] = ((word >> 8) % 256) as u8;
-    out[at + 3] = (word % 256) as u8;
+    out[at] = ((word >> 56) % 256) as u8;
+    out[at + 1] = ((word >> 48) % 256) as u8;
+    out[at + 2] = ((word >> 40) % 256) as u8;
+    out[at + 3] = ((word >> 32) % 256) as u8;
+    out[at + 4] = ((word >> 24) % 256) as u8;
+    out[at + 5] = ((word >> 16) % 256) as u8;
+    out[at + 6] = ((word >> 8) % 256) as u8;
+    out[at + 7] = (word % 256) as u8;
 }
 
-/// Appends the `width` bits of x; whole words are stored.
-pub fn put_field(out: &mut [u8], p: Pending, width: u32, x: u32) -> Pending
-    requires { ⌜ (p .have < 32) × (width ≤ 16) × (x < 2 ^ width) × (8 * p .at + p .have + width ≤ 8 * length (now out)) ⌝ }
+/// Appends the `width` bits of x, one at least, by a word that ends in zero bits.
+pub fn put_bits(out: &mut [u8], p: Pending, width: u32, x: u64) -> Pending
+    requires { ⌜ (p .have < 8) × (1 ≤ width) × (width ≤ 56) × (x < 2 ^ width) × (p .at + 8 ≤ length (now out)) ⌝ }
     ensures { λ r. ⌜ Put p width x (now (out .entry)) r (now (out .exit)) ⌝ }
 {
-    let acc = (p.acc << width) | x as u64;
+    let acc = (p.acc << width) | x;
     let have = p.have + width;
     let at = p.at;
-    if have < 32 {
-        return Pending { acc, have, at };
-    }
-    let rest = have - 32;
-    store_word(out, at, acc >> rest);
+    store_word(out, at, acc << (64 - have));
     Pending {
         acc,
-        have: rest,
-        at: at + 4,
+        have: have % 8,
+        at: at + (have / 8) as usize,
     }
 }
 
-// Stores the whole bytes that are left.
-fn flush(out: &mut [u8], p: Pending) -> Pending
-    requires { ⌜ (p .have < 32) × (8 * p .at + p .have ≤ 8 * length (now out)) ⌝ }
-    ensures { λ r. ⌜ Flushed p (now (out .entry)) r (now (out .exit)) ⌝ }
+/// Appends the `width` bits of x, or nothing where it has none.
+pub fn put_field(out: &mut [u8], p: Pending, width: u32, x: u64) -> Pending
+    requires { ⌜ (p .have < 8) × (width ≤ 56) × (x < 2 ^ width) × (p .at + 8 ≤ length (now out)) ⌝ }
+    ensures { λ r. ⌜ Put p width x (now (out .entry)) r (now (out .exit)) ⌝ }
 {
-    let acc = p.acc;
-    let mut have = p.have;
-    let mut at = p.at;
-    while have >= 8 {
-        have -= 8;
-        out[at] = ((acc >> have) % 256) as u8;
-        at += 1;
+    if width == 0 {
+        return p;
     }
-    Pending { acc, have, at }
+    put_bits(out, p, width, x)
 }
 
-/// Stores the bits that are left, and zero bits to the end of their byte.
-pub fn finish(out: &mut [u8], p: Pending)
-    requires { ⌜ (p .have < 32) × (8 * p .at + p .have ≤ 8 * length (now out)) ⌝ }
-    ensures { λ _. ⌜ Finished p (now (out .entry)) (now (out .exit)) ⌝ }
+// The bits of a, and then the `width` bits of b.
+fn followed(a: u64, width: u32, b: u64) -> u64
+    requires { ⌜ (width ≤ 16) × (a < 2 ^ 48) × (b < 2 ^ width) ⌝ }
+    ensures { λ r. ⌜ r ≡ a * 2 ^ width + b ⌝ }
 {
-    let q = flush(out, p);
-    if 0 < q.have {
-        let at = q.at;
-        out[at] = ((q.acc << (8 - q.have)) % 256) as u8;
-    }
+    (a << width) | b
+}
+
+fn long(x: u16) -> u64
+    ensures { λ r. ⌜ r ≡ x ⌝ }
+{
+    x as u64
+}
+
+/// Four numbers of `width` bits from place i on, as one.
+pub fn four_from(v: &[u16], i: usize, width: u32) -> u64
+    requires { ⌜ (width ≤ 14) × (i + 4 ≤ length (now v)) × ((j : ℕ) → i ≤ j → j < i + 4 → getD (now v) j 0 < 2 ^ width) ⌝ }
+    ensures { λ r. ⌜ (r ≡ fourOf (now (v .entry)) i width) × (r < 2 ^ (4 * width)) ⌝ }
+{
+    let b = followed(long(v[i]), width, long(v[i + 1]));
+    let c = followed(b, width, long(v[i + 2]));
+    followed(c, width, long(v[i + 3]))
 }
 
 /// A reading position over the bytes that it was lent: the next bit is bit `at`.

@@ -1,12 +1,12 @@
--- Where a run of one width ends.
--- Main results: run-to, fours-on.
+-- Where a run of one width ends, and the bits of four entries of one width.
+-- Main results: run-to, fours-on, total-four.
 use mathlib.Core.Path.{_≡_, ap, _∙_}
-use Prim.Native.Nat.{ℕ, _+_, _-_, _*_, _%_, _^_, _≤_, _<_, min}
+use Prim.Native.Nat.{ℕ, suc, _+_, _-_, _*_, _%_, _^_, _≤_, _<_, min}
 use native.Mathlib.Nat.{one-mul, mod-eq-of-lt}
 use native.Mathlib.Omega.{arith}
 use lib.Pow.{pow-lt}
-use Rattle.rules.specs.Record.{width}
-use Rattle.record_laws.specs.Width.{width-below, width-run, width-fours}
+use Rattle.rules.specs.Record.{width, total}
+use Rattle.record_laws.specs.Width.{width-below, width-run, width-fours, total-suc}
 use Rattle.record.specs.Runs.{Fours, Run}
 
 -- the end of the entries of one width, as a shift makes it
@@ -32,3 +32,20 @@ run-to i end r f h e =
 -- behind a run the fours go on
 pub fours-on : {i r end : ℕ} → Fours i end → i ≤ r → Run i r → Fours r end
 fours-on f l g = record { from = omega (arith, f .from); first = g .fours .last; last = f .last }
+
+-- four entries of one width
+pub total-four : (i w : ℕ) → ((j : ℕ) → i ≤ j → j < i + 4 → width j ≡ w) → total (i + 4) ≡ total i + 4 * w
+total-four i w e =
+    let f : i + 4 ≡ suc (suc (suc (suc i))) = omega arith in
+    rw f
+    (omega (
+      arith,
+      total-suc i,
+      total-suc (suc i),
+      total-suc (suc (suc i)),
+      total-suc (suc (suc (suc i))),
+      e i (omega arith) (omega arith),
+      e (suc i) (omega arith) (omega arith),
+      e (suc (suc i)) (omega arith) (omega arith),
+      e (suc (suc (suc i))) (omega arith) (omega arith),
+    ))

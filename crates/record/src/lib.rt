@@ -5,8 +5,8 @@ ghost use Prim.Native.Nat.{_+_, _-_, _*_, _%_, _≤_, _<_, _^_, min};
 ghost use lib.ListN.{length, take, drop};
 ghost use Rattle.rules.specs.Vector.{Valid};
 ghost use Rattle.rules.specs.Record.{width, total, recordLength, recordOf, bitsOf, leafCount, anySet};
-ghost use Rattle.record_laws.specs.Fields.{Fit, entriesFrom};
-ghost use Rattle.record.specs.Entries.{PutEntries};
+ghost use Rattle.record_laws.specs.Fields.{entriesFrom};
+ghost use Rattle.record.specs.Entries.{PutEntries, Due};
 ghost use Rattle.record.specs.Runs.{Fours, Run};
 ghost use Rattle.record.specs.Reading.{Left, Read};
 use bits::Pending;
@@ -58,44 +58,95 @@ fn small(x: u32) -> u16
     x as u16
 }
 
-fn long(x: u16) -> u32
+fn long(x: u16) -> u64
     ensures { λ r. ⌜ r ≡ x ⌝ }
 {
-    x as u32
+    x as u64
 }
 
-/// Appends the fields of the entries to the bits that are held.
-pub fn put_entries(v: &[u16], out: &mut [u8], p: Pending) -> Pending
-    requires { ⌜ (1 ≤ length (now v)) × (length (now v) ≤ 1024) × Fit (now v) ⌝ }
-    requires { ⌜ (p .have < 32) × (8 * p .at + p .have + (total (length (now v)) - 11) ≤ 8 * length (now out)) ⌝ }
-    ensures { λ r. ⌜ PutEntries p (now (v .entry)) (now (out .entry)) r (now (out .exit)) ⌝ }
+// Appends the fields of the entries from i to end one by one.
+fn put_singles(v: &[u16], i: usize, end: usize, out: &mut [u8], p: Pending) -> Pending
+    requires { ⌜ Due (now v) i end p (length (now out)) ⌝ }
+    ensures { λ r. ⌜ PutEntries (now (v .entry)) i end p (now (out .entry)) r (now (out .exit)) ⌝ }
 {
     let mut q = p;
-    let mut i = 1;
-    while i < v.len() {
-        q = bits::put_field(out, q, field_width(i), long(v[i]));
-        i += 1;
+    let mut k = i;
+    while k < end {
+        q = bits::put_field(out, q, field_width(k), long(v[k]));
+        k += 1;
     }
     q
 }
 
-/// Writes the record of a valid vector to the front of `out`.
+// The same for entries of one width, four by four.
+fn put_run(v: &[u16], i: usize, end: usize, out: &mut [u8], p: Pending) -> Pending
+    requires { ⌜ Due (now v) i end p (length (now out)) × Run i end ⌝ }
+    ensures { λ r. ⌜ PutEntries (now (v .entry)) i end p (now (out .entry)) r (now (out .exit)) ⌝ }
+{
+    let w = field_width(i);
+    let mut q = p;
+    let mut k = i;
+    while k < end {
+        q = bits::put_bits(out, q, 4 * w, bits::four_from(v, k, w));
+        k += 4;
+    }
+    q
+}
+
+// The same for entries of any width, run by run.
+fn put_fours(v: &[u16], i: usize, end: usize, out: &mut [u8], p: Pending) -> Pending
+    requires { ⌜ Due (now v) i end p (length (now out)) × (i < end → Fours i end) ⌝ }
+    ensures { λ r. ⌜ PutEntries (now (v .entry)) i end p (now (out .entry)) r (now (out .exit)) ⌝ }
+{
+    let mut q = p;
+    let mut k = i;
+    while k < end {
+        let e = run_end(k, end);
+        q = put_run(v, k, e, out, q);
+        k = e;
+    }
+    q
+}
+
+/// Appends the fields of the entries to the bits that are held. Room for a word behind them is wanted.
+pub fn put_entries(v: &[u16], out: &mut [u8], p: Pending) -> Pending
+    requires { ⌜ Due (now v) 1 (length (now v)) p (length (now out)) ⌝ }
+    ensures { λ r. ⌜ PutEntries (now (v .entry)) 1 (length (now (v .entry))) p (now (out .entry)) r (now (out .exit)) ⌝ }
+{
+    let n = v.len();
+    let first = lesser(5, n);
+    let last = fours_end(first, 0, n);
+    let fours = put_singles(v, 1, first, out, p);
+    let rest = put_fours(v, first, last, out, fours);
+    put_singles(v, last, n, out, rest)
+}
+
+// The first n bytes of src become those of out; the others stay.
+fn copy_bytes(src: &[u8], n: usize, out: &mut [u8])
+    requires { ⌜ (n ≤ length (now src)) × (n ≤ length (now out)) ⌝ }
+    ensures { λ _. ⌜ now (out .exit) ≡ take n (now (src .entry)) ++ drop n (now (out .entry)) ⌝ }
+{
+    let mut k: usize = 0;
+    while k < n {
+        out[k] = src[k];
+        k += 1;
+    }
+}
+
+/// Writes the record of a valid vector to the front of `out`. It is built in an array of its own, since a word is stored at a time.
 pub fn pack_into(v: &[u16], out: &mut [u8])
     requires { ⌜ Valid (now v) × (length (now v) ≤ 1024) × (recordLength (length (now v)) ≤ length (now out)) ⌝ }
     ensures { λ _. ⌜ now (out .exit) ≡ recordOf (now (v .entry)) ++ drop (recordLength (length (now (v .entry)))) (now (out .entry)) ⌝ }
 {
-    let n = bits::put_field(
-        out,
-        Pending {
-            acc: 0,
-            have: 0,
-            at: 0,
-        },
-        11,
-        v.len() as u32,
-    );
-    let p = put_entries(v, out, n);
-    bits::finish(out, p);
+    let mut built = [0u8; 1288];
+    let none = Pending {
+        acc: 0,
+        have: 0,
+        at: 0,
+    };
+    let count = bits::put_bits(&mut built, none, 11, v.len() as u64);
+    let p = put_entries(v, &mut built, count);
+    copy_bytes(&built, p.at + ((p.have + 7) / 8) as usize, out);
 }
 
 /// The leaf count that a record begins with.

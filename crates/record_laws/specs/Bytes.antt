@@ -1,5 +1,5 @@
 -- Bits in bytes: packing bits into bytes and taking the bits of bytes are inverse, up to zero bits at the end.
--- Main definitions: AreBytes, byteAt. Main results: bytes-of-bits, bits-of-bytes, bytes-unique, bytes-snoc, number-window.
+-- Main definitions: AreBytes, byteAt. Main results: bytes-of-bits, bits-of-bytes, bytes-unique, bytes-snoc, bytes-take, word-byte.
 use mathlib.Core.Path.{_≡_, refl, sym, ap, ap₂, _∙_}
 use mathlib.Core.List.{List, [], _∷_, _++_, append-assoc}
 use Prim.Native.Nat.{ℕ, zero, suc, _+_, _-_, _*_, _/_, _%_, _^_, _≤_, _<_}
@@ -9,7 +9,7 @@ use native.Mathlib.Omega.{arith}
 use lib.ListN.{length, take, drop, getD, replicate, length-append, length-take, length-drop, length-replicate}
 use lib.Seq.{drop-drop, drop-append-seam, take-append-le, drop-append-le, drop-nil, take-at, drop-at}
 use Rattle.rules.specs.Record.{Bits, field, number, bytesOf, bitsOf}
-use Rattle.record_laws.specs.Number.{AreBits, are-append, are-take, are-drop, are-zeros, are-field, length-field, number-lt, number-of-field, number-append, field-of}
+use Rattle.record_laws.specs.Number.{AreBits, are-append, are-take, are-drop, are-zeros, are-field, length-field, number-lt, number-of-field, number-append, number-zeros, number-part, field-of}
 
 -- each of the numbers is a byte
 unfoldable pub AreBytes : List ℕ → Type 0
@@ -129,3 +129,50 @@ bytes-prefix (suc k) bs cs h = ap₂ _∷_ (ap number first) (ap (bytesOf k) (dr
 
     first : take 8 ((bs ++ cs) ++ replicate 8 0) ≡ take 8 (bs ++ replicate 8 0)
     first = rw (append-assoc bs cs (replicate 8 0)) (take-append-le 8 bs (cs ++ replicate 8 0) l ∙ sym (take-append-le 8 bs (replicate 8 0) l))
+
+-- the first of the bytes
+pub bytes-take : (j k : ℕ) (bs : Bits) → j ≤ k → take j (bytesOf k bs) ≡ bytesOf j bs
+unfolding bytesOf
+bytes-take zero k bs h = refl
+bytes-take (suc j) zero bs h = absurd (omega arith)
+bytes-take (suc j) (suc k) bs h = ap (_∷_ (number (take 8 (bs ++ replicate 8 0)))) (bytes-take j k (drop 8 bs) (omega arith))
+
+take-zeros : (k n : ℕ) → k ≤ n → _≡_ {A = Bits} (take k (replicate n 0)) (replicate k 0)
+take-zeros zero n h = refl
+take-zeros (suc k) zero h = absurd (omega arith)
+take-zeros (suc k) (suc n) h = ap (_∷_ 0) (take-zeros k n (omega arith))
+
+-- as many zero bits as are needed follow
+zeros-enough : (m y z : ℕ) (bs : Bits) → m ≤ length bs + y → m ≤ length bs + z → take m (bs ++ replicate y 0) ≡ take m (bs ++ replicate z 0)
+zeros-enough zero y z bs h g = refl
+zeros-enough (suc m) y z [] h g = take-zeros (suc m) y (omega arith) ∙ sym (take-zeros (suc m) z (omega arith))
+zeros-enough (suc m) y z (b ∷ bs) h g = ap (_∷_ b) (zeros-enough m y z bs (omega arith) (omega arith))
+
+-- bits behind k bits, zero bits following
+part-filled : (k m z : ℕ) (bs : Bits) → k + m ≤ length bs + z → take m (drop k (bs ++ replicate z 0)) ≡ take m (drop k bs ++ replicate m 0)
+part-filled zero m z bs h = zeros-enough m z m bs (omega arith) (omega arith)
+part-filled (suc k) m zero [] h = absurd (omega arith)
+part-filled (suc k) m (suc z) [] h =
+    let d : _≡_ {A = Bits} (drop k []) [] = drop-nil k in
+    rw d at (part-filled k m z [] (omega arith))
+part-filled (suc k) m z (b ∷ bs) h = part-filled k m z bs (omega arith)
+
+-- bytes of a word that holds bits at its high end and then zero bits
+pub word-byte : (bs : Bits) (k m : ℕ) → AreBits bs → length bs ≤ 64 → 8 * k + 8 + m ≡ 64
+    → number bs * 2 ^ (64 - length bs) / 2 ^ m % 256 ≡ byteAt bs k
+unfolding byteAt
+word-byte bs k m h l e =
+    let f : 64 - 8 * k - 8 ≡ m = omega arith in
+    sym
+    (ap number (sym (part-filled (8 * k) 8 (64 - length bs) bs (omega arith)))
+    ∙ number-part word (8 * k) 8 (are-append bs (replicate (64 - length bs) 0) h (are-zeros (64 - length bs))) (rw size (omega arith))
+    ∙ rw (size, f, value))
+  where
+    word : Bits
+    word = bs ++ replicate (64 - length bs) 0
+
+    size : length word ≡ 64
+    size = rw (length-append, length-replicate) (omega arith)
+
+    value : number word ≡ number bs * 2 ^ (64 - length bs)
+    value = number-append bs (replicate (64 - length bs) 0) ∙ rw (number-zeros (64 - length bs), length-replicate {A = ℕ} (64 - length bs) 0) (omega arith)

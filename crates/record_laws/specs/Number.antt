@@ -1,9 +1,9 @@
 -- Bits in a row and the number they stand for, most significant first: one law over the width.
--- Main definitions: AreBits. Main results: number-append, number-field, field-number, number-part.
+-- Main definitions: AreBits. Main results: number-append, number-field, field-joined, field-number, number-part.
 use mathlib.Core.Path.{_≡_, refl, sym, ap, ap₂, _∙_}
 use mathlib.Core.List.{List, [], _∷_, _++_}
 use Prim.Native.Nat.{ℕ, zero, suc, _+_, _-_, _*_, _/_, _%_, _^_, _≤_, _<_}
-use native.Mathlib.Nat.{mod-lt, mod-one, zero-add, add-comm, pow-suc, add-mul, mul-assoc, mod-eq-of-lt}
+use native.Mathlib.Nat.{le-trans, suc-mul, mul-le-mul-right, mod-lt, mod-one, zero-add, add-comm, pow-suc, add-mul, mul-assoc, mod-eq-of-lt}
 use native.Mathlib.Numerals.{add-one}
 use native.Mathlib.Omega.{arith}
 use lib.Dec.{lit<}
@@ -75,6 +75,11 @@ number-append (a ∷ as′) bs =
       mul-assoc,
     ) (omega arith)
 
+pub number-zeros : (k : ℕ) → number (replicate k 0) ≡ 0
+unfolding number numberFrom
+number-zeros zero = refl
+number-zeros (suc k) = number-zeros k
+
 -- the number of w bits is below 2 ^ w
 pub number-lt : (bs : Bits) → AreBits bs → number bs < 2 ^ length bs
 unfolding AreBits number numberFrom
@@ -115,6 +120,20 @@ number-injective (a ∷ as′) (b ∷ bs) h g l e =
 
     same : a * 2 ^ length bs + number as′ ≡ b * 2 ^ length bs + number bs
     same = rw (← k) (sym (number-cons a as′)) ∙ e ∙ number-cons b bs
+
+-- two numbers in a row of bits
+pub joined-lt : (j k : ℕ) {x y : ℕ} → x < 2 ^ j → y < 2 ^ k → x * 2 ^ k + y < 2 ^ (j + k)
+joined-lt j k {x} {y} h g = rw pow-add (le-trans (omega (arith, suc-mul x (2 ^ k))) (mul-le-mul-right (2 ^ k) h))
+
+-- their bits are those of the one and then those of the other
+pub field-joined : (j k x y : ℕ) → y < 2 ^ k → field (j + k) (x * 2 ^ k + y) ≡ field j x ++ field k y
+field-joined j k x y h =
+    number-injective (field (j + k) (x * 2 ^ k + y)) (field j x ++ field k y) (are-field (j + k) (x * 2 ^ k + y))
+    (are-append (field j x) (field k y) (are-field j x) (are-field k y))
+    (length-field (j + k) (x * 2 ^ k + y) ∙ sym (length-append (field j x) (field k y) ∙ rw (length-field j x, length-field k y)))
+    (number-field (j + k) (x * 2 ^ k + y) ∙ mod-pow-add (x * 2 ^ k + y) j k
+    ∙ rw (high x k h, low x k h)
+    (sym (number-append (field j x) (field k y) ∙ rw (length-field k y, number-field j x, number-of-field k y h))))
 
 -- a field depends on the number modulo 2 ^ w only
 pub field-same : (w x y : ℕ) → x % 2 ^ w ≡ y % 2 ^ w → field w x ≡ field w y

@@ -1,4 +1,4 @@
--- `bits::store_word` meets its contract: four stores.
+-- `bits::store_word` meets its contract: eight stores.
 use native.Mathlib.Omega.{arith}
 use borrow.Author.Needs.{needs}
 use mathlib.Core.Path.{refl}
@@ -40,8 +40,44 @@ add-out-3 c = search needs
 slice-write-out-4 : tie.Need-slice-write-out-4
 slice-write-out-4 c = simp length-set (omega arith)
 
+cast-out-5 : tie.Need-cast-out-5
+cast-out-5 c = search needs
+
+add-out-4 : tie.Need-add-out-4
+add-out-4 c = search needs
+
+slice-write-out-5 : tie.Need-slice-write-out-5
+slice-write-out-5 c = simp length-set (omega arith)
+
+cast-out-6 : tie.Need-cast-out-6
+cast-out-6 c = search needs
+
+add-out-5 : tie.Need-add-out-5
+add-out-5 c = search needs
+
+slice-write-out-6 : tie.Need-slice-write-out-6
+slice-write-out-6 c = simp length-set (omega arith)
+
+cast-out-7 : tie.Need-cast-out-7
+cast-out-7 c = search needs
+
+add-out-6 : tie.Need-add-out-6
+add-out-6 c = search needs
+
+slice-write-out-7 : tie.Need-slice-write-out-7
+slice-write-out-7 c = simp length-set (omega arith)
+
+cast-out-8 : tie.Need-cast-out-8
+cast-out-8 c = search needs
+
+add-out-7 : tie.Need-add-out-7
+add-out-7 c = search needs
+
+slice-write-out-8 : tie.Need-slice-write-out-8
+slice-write-out-8 c = simp length-set (omega arith)
+
 same-length : tie.Need-same-length
-same-length c = search needs
+same-length c = simp length-set
 
 returns : tie.Need-returns
 unfolding wordStored
@@ -62,5 +98,17 @@ store-word-spec =
     cast-out-4
     add-out-3
     slice-write-out-4
+    cast-out-5
+    add-out-4
+    slice-write-out-5
+    cast-out-6
+    add-out-5
+    slice-write-out-6
+    cast-out-7
+    add-out-6
+    slice-write-out-7
+    cast-out-8
+    add-out-7
+    slice-write-out-8
     same-length
     returns)

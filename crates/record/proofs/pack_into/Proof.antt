@@ -1,43 +1,59 @@
--- `record::pack_into` meets its contract: the count, the entries and the last byte are the record (`packed`).
+-- `record::pack_into` meets its contract: the count and the entries are the record (`packed`), which is copied.
 use native.Mathlib.Omega.{arith}
 use borrow.Author.Needs.{needs}
-use Rattle.record_laws.specs.Inverse.{valid-fit}
-use Rattle.record.proofs.Packing.{packed, record-room}
+use mathlib.Core.Path.{_∙_}
+use Rattle.record_laws.specs.Width.{record-length-most}
+use Rattle.record.proofs.Packing.{entries-due, packed}
 use Rattle.record.proofs.pack_into.Statement.{statement}
 use Rattle.record.proofs.pack_into.Tie as tie
 
-cast-put-field : tie.Need-cast-put-field
-cast-put-field c = search needs
+slice-aggregate-put-bits : tie.Need-slice-aggregate-put-bits
+slice-aggregate-put-bits c = search needs
 
-put-field-requires : tie.Need-put-field-requires
-put-field-requires c κs = let f = record-room _ _ (c .before .before .before .pre .2) in (omega arith, omega arith, omega arith, omega arith)
+put-bits-requires : tie.Need-put-bits-requires
+put-bits-requires c κs = search needs
+
+slice-aggregate-put-entries : tie.Need-slice-aggregate-put-entries
+slice-aggregate-put-entries c = search needs
 
 put-entries-requires : tie.Need-put-entries-requires
-put-entries-requires c κs =
-    let f = record-room _ _ (c .before .before .before .before .before .before .before .pre .2) in
-    let p = c .before .before .before .put-field .ensures in
-    ((c .before .before .before .before .before .before .before .pre .0 .some-leaf, c .before .before .before .before .before .before .before .pre .1, valid-fit _ (c .before .before .before .before .before .before .before .pre .0)), (p .below, omega (arith, f .0, f .1, p .count, c .before .before .before .put-field .kept .0)))
+put-entries-requires c κs = entries-due _ _ _ (c .before .before .put-bits .ensures) (c .before .before .before .before .before .before .pre .0) (c .before .before .before .before .before .before .pre .1) (c .before .before .put-bits .kept .0)
 
-finish-requires : tie.Need-finish-requires
-finish-requires c κs =
-    let f = record-room _ _ (c .before .before .before .before .before .before .before .before .before .before .before .pre .2) in
-    let p = c .before .before .before .before .before .before .before .put-field .ensures in
-    let q = c .before .before .before .put-entries .ensures in
-    (q .below, omega (arith, f .0, f .1, p .count, q .count, c .before .before .before .before .before .before .before .put-field .kept .0, c .before .before .before .put-entries .kept .1 .0))
+slice-aggregate-copy-bytes : tie.Need-slice-aggregate-copy-bytes
+slice-aggregate-copy-bytes c = search needs
+
+add-copy-bytes : tie.Need-add-copy-bytes
+add-copy-bytes c = search needs
+
+cast-copy-bytes : tie.Need-cast-copy-bytes
+cast-copy-bytes c = search needs
+
+add-copy-bytes-2 : tie.Need-add-copy-bytes-2
+add-copy-bytes-2 c = omega (arith, packed _ _ _ (c .before .before .before .before .before .before .before .put-bits .ensures) _ _ (omega (arith, c .before .before .before .before .before .before .before .before .before .before .before .pre .0 .some-leaf)) (c .before .before .before .before .put-entries .ensures) .0, record-length-most _ (c .before .before .before .before .before .before .before .before .before .before .before .pre .1))
+
+copy-bytes-requires : tie.Need-copy-bytes-requires
+copy-bytes-requires c κs = let e = packed _ _ _ (c .before .before .before .before .before .before .before .before .put-bits .ensures) _ _ (omega (arith, c .before .before .before .before .before .before .before .before .before .before .before .before .pre .0 .some-leaf)) (c .before .before .before .before .before .put-entries .ensures) .0 in let m = record-length-most _ (c .before .before .before .before .before .before .before .before .before .before .before .before .pre .1) in (omega arith, omega arith)
 
 same-length : tie.Need-same-length
 same-length c = search needs
 
 returns : tie.Need-returns
-returns c = packed _ _ _ _ _ _ _ (c .before .before .before .before .before .before .before .before .before .before .put-field .ensures) (c .before .before .before .before .before .before .put-entries .ensures) (c .before .before .finish .ensures)
+returns c =
+    let e = packed _ _ _ (c .before .before .before .before .before .before .before .before .before .before .before .put-bits .ensures) _ _ (omega (arith, c .before .before .before .before .before .before .before .before .before .before .before .before .before .before .before .pre .0 .some-leaf)) (c .before .before .before .before .before .before .before .before .put-entries .ensures) in
+    c .before .before .copy-bytes .ensures ∙ rw (e .0, e .1)
 
 pub pack-into-spec : {M : Type 1} → statement M
 pack-into-spec =
     tie.close
     (tie.spec
-    cast-put-field
-    put-field-requires
+    slice-aggregate-put-bits
+    put-bits-requires
+    slice-aggregate-put-entries
     put-entries-requires
-    finish-requires
+    slice-aggregate-copy-bytes
+    add-copy-bytes
+    cast-copy-bytes
+    add-copy-bytes-2
+    copy-bytes-requires
     same-length
     returns)

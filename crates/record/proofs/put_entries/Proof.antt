@@ -1,84 +1,52 @@
--- `record::put_entries` meets its contract. The loop keeps `Putting`; the measure is the number of entries left.
+-- `record::put_entries` meets its contract: the entries before the fours, the fours, and those behind them.
 use native.Mathlib.Omega.{arith}
 use borrow.Author.Needs.{needs}
-use mathlib.Core.Path.{_≡_}
-use Prim.Native.Nat.{_-_}
-use lib.Seq.{take-length}
 use lib.ListN.{length}
-use Rattle.record.proofs.Putting.{Putting, putting-start, putting-fits, putting-next}
+use Rattle.record.proofs.Putting.{Ahead, due-fewer, ahead-start, ahead-due, ahead-more, put-then}
 use Rattle.record.proofs.put_entries.Statement.{statement}
 use Rattle.record.proofs.put_entries.Tie as tie
 
-abbrev Inv-loop : tie.InvT-loop
-Inv-loop v out₀ q₀ i₀ out q i = Putting v out₀ q₀ out q i
+-- what is due after each of the first two parts
+on-fours : (c : tie.After-put-singles) → Ahead (c .before .before .before .before .before .before .args .v .now) 1 (length (c .before .before .before .before .before .before .args .v .now)) (c .before .before .before .before .before .before .args .out .now) (c .before .before .before .before .before .before .args .p) (c .put-singles .last .1 .1 .1 .0) (c .put-singles .result) (c .before .before .before .lesser .result)
+on-fours c = ahead-more (ahead-start (c .before .before .before .before .before .before .pre)) _ (c .put-singles .result) _ (omega (arith, c .before .before .before .before .before .before .pre .most)) (omega arith) (c .put-singles .kept .1 .1 .1 .0) (c .put-singles .ensures)
 
-abbrev μ-loop : tie.MeasureT-loop
-μ-loop v out₀ q₀ i₀ out q i = length v - i
+on-rest : (c : tie.After-put-fours) → Ahead (c .before .before .before .before .before .before .before .before .before .before .args .v .now) 1 (length (c .before .before .before .before .before .before .before .before .before .before .args .v .now)) (c .before .before .before .before .before .before .before .before .before .before .args .out .now) (c .before .before .before .before .before .before .before .before .before .before .args .p) (c .put-fours .last .1 .1 .1 .0) (c .put-fours .result) (c .before .before .before .before .before .before .fours-end .result)
+on-rest c = let e = c .before .before .before .before .before .before .fours-end .ensures in ahead-more (on-fours (c .before .before .before .before)) _ (c .put-fours .result) _ (e .0) (e .1) (c .put-fours .kept .1 .1 .1 .0) (c .put-fours .ensures)
 
-loop-holds : tie.Need-loop-holds Inv-loop μ-loop
-loop-holds c =
-    let b = c .before .before in
-    putting-start _ _ _ (omega arith) (omega arith) (b .pre .0 .2) (omega arith) (omega arith)
+lesser-requires : tie.Need-lesser-requires
+lesser-requires c κs = search needs
 
-field-width-requires : tie.Need-field-width-requires Inv-loop μ-loop
-field-width-requires c κs = search needs
+fours-end-requires : tie.Need-fours-end-requires
+fours-end-requires c κs = search needs
 
-mul-long : tie.Need-mul-long Inv-loop μ-loop
-mul-long c = search needs
+put-singles-requires : tie.Need-put-singles-requires
+put-singles-requires c κs = due-fewer _ (c .before .before .before .before .before .pre) (omega (arith, c .before .before .before .before .before .pre .most)) (omega arith)
 
-shared-slice-read-long : tie.Need-shared-slice-read-long Inv-loop μ-loop
-shared-slice-read-long c = search needs
-
-long-requires : tie.Need-long-requires Inv-loop μ-loop
-long-requires c κs = search needs
-
-put-field-requires : tie.Need-put-field-requires Inv-loop μ-loop
-put-field-requires c κs =
-    let f = putting-fits (c .before .before .before .before .before .loop .inv) (c .before .before .before .before .loop-test .taken) in (
-      c .before .before .before .before .before .loop .inv .below,
-      omega (arith, f .0, c .before .before .field-width .ensures),
-      rw (c .long .ensures, c .before .before .field-width .ensures) (f .1),
-      rw (c .before .before .field-width .ensures) (f .2),
+put-fours-requires : tie.Need-put-fours-requires
+put-fours-requires c κs =
+    let e = c .before .before .before .before .before .fours-end .ensures in
+    let l = c .before .before .before .before .before .before .lesser .ensures in (
+      ahead-due (on-fours (c .before .before .before)) _ (omega arith) (omega arith),
+      λ h. record { from = omega (arith, h); first = omega (arith, h); last = omega (arith, h) },
     )
 
-add-i : tie.Need-add-i Inv-loop μ-loop
-add-i c = search needs
+put-singles-requires-2 : tie.Need-put-singles-requires-2
+put-singles-requires-2 c κs = ahead-due (on-rest (c .before .before .before)) _ (omega (arith, c .before .before .before .before .before .before .before .before .before .fours-end .ensures .1)) (omega arith)
 
-loop-less : tie.Need-loop-less Inv-loop μ-loop
-loop-less c = search needs
-
-loop-again : tie.Need-loop-again Inv-loop μ-loop
-loop-again c =
-    putting-next (c .before .before .before .before .before .before .before .before .loop .inv) (c .before .before .before .before .before .before .before .loop-test .taken) (c .before .before .put-field .last .0) (c .before .before .put-field .result) (c .before .before .put-field .kept .0)
-    (rw (c .before .before .before .long .ensures, c .before .before .before .before .before .field-width .ensures) at (c .before .before .put-field .ensures))
-
-same-length : tie.Need-same-length Inv-loop μ-loop
+same-length : tie.Need-same-length
 same-length c = search needs
 
-returns : tie.Need-returns Inv-loop μ-loop
-returns c =
-    let v = c .before .before .before .before .args .v .now in
-    let e : c .before .loop .i ≡ length v = omega arith in
-    record {
-      below = c .before .loop .inv .below;
-      count = rw e at (c .before .loop .inv .count);
-      held = λ bits old w. rw (e, take-length v) at (c .before .loop .inv .held bits old w);
-    }
+returns : tie.Need-returns
+returns c = put-then (on-rest (c .before .before .before .before .before .before) .put) (c .before .before .put-singles2 .ensures)
 
 pub put-entries-spec : {M : Type 1} → statement M
 put-entries-spec =
     tie.close
     (tie.spec
-    Inv-loop
-    μ-loop
-    loop-holds
-    field-width-requires
-    mul-long
-    shared-slice-read-long
-    long-requires
-    put-field-requires
-    add-i
-    loop-less
-    loop-again
+    lesser-requires
+    fours-end-requires
+    put-singles-requires
+    put-fours-requires
+    put-singles-requires-2
     same-length
     returns)
