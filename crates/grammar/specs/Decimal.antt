@@ -1,5 +1,5 @@
 -- A number below 10,000 in decimal is a label that reads as the number.
--- Main definitions: digitCount. Main results: digits-label, digits-length.
+-- Main definitions: digitCount, twoDigits. Main results: digits-label, digits-length, digits-one to digits-four.
 use mathlib.Core.Path.{_≡_, refl, ap, ap₂, sym, subst, subst₂, _∙_}
 use mathlib.Core.Bool.{Bool, true, false, cond, _&&_, true≢false}
 use mathlib.Core.List.{List, [], _∷_, _++_, append-assoc}
@@ -134,19 +134,28 @@ pub digits-one : (k x : ℕ) → x < 10 → digits (suc k) x ≡ (48 + x) ∷ []
 unfolding digits
 digits-one k x h = rw (lt-ltb x 10 h)
 
-pub digits-more : (k x : ℕ) → 10 ≤ x → digits (suc k) x ≡ digits k (x / 10) ++ ((48 + x % 10) ∷ [])
+digits-more : (k x : ℕ) → 10 ≤ x → digits (suc k) x ≡ digits k (x / 10) ++ ((48 + x % 10) ∷ [])
 unfolding digits
 digits-more k x h = rw (le-ltb x 10 h)
 
-pub digits-two : (k x : ℕ) → 10 ≤ x → x / 10 < 10 → digits (suc (suc k)) x ≡ (48 + x / 10) ∷ (48 + x % 10) ∷ []
-digits-two k x h g = digits-more (suc k) x h ∙ ap (λ (l : List ℕ). l ++ ((48 + x % 10) ∷ [])) (digits-one k (x / 10) g)
+-- a number below 100 by two digits
+abbrev pub twoDigits : ℕ → List ℕ
+twoDigits x = (48 + x / 10) ∷ (48 + x % 10) ∷ []
 
-pub digits-three : (k x : ℕ) → 10 ≤ x → 10 ≤ x / 10 → x / 10 / 10 < 10
-    → digits (suc (suc (suc k))) x ≡ (48 + x / 10 / 10) ∷ (48 + x / 10 % 10) ∷ (48 + x % 10) ∷ []
-digits-three k x h g f = digits-more (suc (suc k)) x h ∙ ap (λ (l : List ℕ). l ++ ((48 + x % 10) ∷ [])) (digits-two k (x / 10) g f)
+pub digits-two : (k x : ℕ) → 10 ≤ x → x < 100 → digits (suc (suc k)) x ≡ twoDigits x
+digits-two k x h g = digits-more (suc k) x h ∙ ap (λ (l : List ℕ). l ++ ((48 + x % 10) ∷ [])) (digits-one k (x / 10) (omega arith))
 
-pub digits-four : (x : ℕ) → x < 10000 → 10 ≤ x → 10 ≤ x / 10 → 10 ≤ x / 10 / 10
-    → digits 4 x ≡ (48 + x / 10 / 10 / 10) ∷ (48 + x / 10 / 10 % 10) ∷ (48 + x / 10 % 10) ∷ (48 + x % 10) ∷ []
-digits-four x l h g f =
-    digits-more 3 x h ∙ ap (λ (l : List ℕ). l ++ ((48 + x % 10) ∷ []))
-    (digits-more 2 (x / 10) g ∙ ap (λ (l : List ℕ). l ++ ((48 + x / 10 % 10) ∷ [])) (digits-two 0 (x / 10 / 10) f (omega arith)))
+-- the last two digits of a number, behind the others
+last-two : (k x : ℕ) → 100 ≤ x → digits (suc (suc k)) x ≡ digits k (x / 100) ++ twoDigits (x - 100 * (x / 100))
+last-two k x h =
+    let p : x / 10 / 10 ≡ x / 100 = omega arith in
+    let q : x / 10 % 10 ≡ (x - 100 * (x / 100)) / 10 = omega arith in
+    let r : x % 10 ≡ (x - 100 * (x / 100)) % 10 = omega arith in
+    digits-more (suc k) x (omega arith) ∙ ap (λ (l : List ℕ). l ++ ((48 + x % 10) ∷ [])) (digits-more k (x / 10) (omega arith))
+    ∙ append-assoc (digits k (x / 10 / 10)) ((48 + x / 10 % 10) ∷ []) ((48 + x % 10) ∷ []) ∙ rw (p, q, r)
+
+pub digits-three : (k x : ℕ) → 100 ≤ x → x < 1000 → digits (suc (suc (suc k))) x ≡ (48 + x / 100) ∷ twoDigits (x - 100 * (x / 100))
+digits-three k x h g = last-two (suc k) x h ∙ ap (λ (l : List ℕ). l ++ twoDigits (x - 100 * (x / 100))) (digits-one k (x / 100) (omega arith))
+
+pub digits-four : (k x : ℕ) → 1000 ≤ x → x < 10000 → digits (suc (suc (suc (suc k)))) x ≡ twoDigits (x / 100) ++ twoDigits (x - 100 * (x / 100))
+digits-four k x h g = last-two (suc (suc k)) x (omega arith) ∙ ap (λ (l : List ℕ). l ++ twoDigits (x - 100 * (x / 100))) (digits-two k (x / 100) (omega arith) (omega arith))

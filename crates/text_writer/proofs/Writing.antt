@@ -1,39 +1,45 @@
--- Stores in a row, and the text of a pair written piece by piece.
--- Main results: wrote-1 to wrote-4, wrote-pair.
-use mathlib.Core.Path.{_≡_, refl, ap, ap₂, sym, subst, _∙_}
-use mathlib.Core.Bool.{true}
+-- What is written piece by piece: a number by its digits, a pair by its children, a text by its last sign.
+-- Main results: two-there, wrote-1 to wrote-4, wrote-pair, wrote-end.
+use mathlib.Core.Path.{_≡_, refl, ap, ap₂, sym, subst₂, _∙_}
 use mathlib.Core.List.{List, [], _∷_, _++_}
-use Prim.Native.Nat.{ℕ, zero, suc, _+_, _-_, _*_, _≤_, _<_}
+use Prim.Native.Nat.{ℕ, _+_, _-_, _*_, _/_, _%_}
 use native.Mathlib.Omega.{arith}
 use native.Mathlib.Numerals.{add-one}
-use lib.ListN.{length, getD, set, length-set, length-append}
+use lib.ListN.{length, set, length-append}
 use lib.Seq.{sets, length-sets}
-use lib.Dec.{ltb}
-use borrow.Author.Tests.{lt-ltb}
-use Rattle.rules.specs.Newick.{digits, pairText, nodeText, textOf}
-use Rattle.rules.specs.Tree.{Tree, leaf, node, least}
-use Rattle.table_laws.specs.Tied.{treeAt, tree-leaf, tree-pair}
+use Rattle.rules.specs.Newick.{pairText, nodeText, textOf}
+use Rattle.rules.specs.Tree.{Tree}
+use Rattle.grammar.specs.Decimal.{twoDigits}
 use Rattle.grammar.specs.Length.{pair-length}
-use Rattle.text_writer.specs.Output.{Wrote, Ordered}
 use Rattle.grammar.specs.Stores.{sets-append}
+use Rattle.text_writer.specs.Output.{Wrote}
+
+pub wrote-as : {w : List ℕ} {at : ℕ} {l l₁ l₂ : List ℕ} {r s : ℕ} → l₂ ≡ l₁ → s ≡ r → Wrote w at l l₁ r → Wrote w at l l₂ s
+wrote-as {w} {at} {l} a b W = subst₂ (Wrote w at l) (sym a) (sym b) W
+
+-- what is written keeps the length
+pub wrote-length : {w : List ℕ} {at : ℕ} {l l₁ : List ℕ} {r : ℕ} → Wrote w at l l₁ r → length l₁ ≡ length l
+wrote-length {w} {at} {l} W = ap length (W .bytes-there) ∙ length-sets l at w
+
+pub two-there : (l : List ℕ) (at x a b : ℕ) → a ≡ 48 + x / 10 → b ≡ 48 + (x - 10 * (x / 10)) → set (set l at a) (at + 1) b ≡ sets l at (twoDigits x)
+two-there l at x a b p q =
+    let r : b ≡ 48 + x % 10 = omega arith in
+    rw (p, r, add-one)
 
 module _ (l : List ℕ) (at : ℕ) (w : List ℕ) where
   pub wrote-1 : (a : ℕ) → w ≡ a ∷ [] → Wrote w at l (set l at a) (at + 1)
   wrote-1 a e = rw e (record { end = refl; bytes-there = refl })
 
-  pub wrote-2 : (a b : ℕ) → w ≡ a ∷ b ∷ [] → Wrote w at l (set (set l at a) (at + 1) b) (at + 2)
-  wrote-2 a b e = rw e (record { end = refl; bytes-there = rw add-one })
+  pub wrote-2 : (x : ℕ) (l₁ : List ℕ) → w ≡ twoDigits x → l₁ ≡ sets l at (twoDigits x) → Wrote w at l l₁ (at + 2)
+  wrote-2 x l₁ e a = rw e (record { end = refl; bytes-there = a })
 
-  pub wrote-3 : (a b c : ℕ) → w ≡ a ∷ b ∷ c ∷ [] → Wrote w at l (set (set (set l at a) (at + 1) b) (at + 2) c) (at + 3)
-  wrote-3 a b c e =
-      let p : at + 2 ≡ suc (suc at) = omega arith in
-      rw e (record { end = refl; bytes-there = rw (add-one, p) })
+  pub wrote-3 : (a x : ℕ) (l₁ : List ℕ) → w ≡ a ∷ twoDigits x → l₁ ≡ sets (set l at a) (at + 1) (twoDigits x) → Wrote w at l l₁ (at + 3)
+  wrote-3 a x l₁ e b = rw e (record { end = refl; bytes-there = rw add-one at b })
 
-  pub wrote-4 : (a b c d : ℕ) → w ≡ a ∷ b ∷ c ∷ d ∷ [] → Wrote w at l (set (set (set (set l at a) (at + 1) b) (at + 2) c) (at + 3) d) (at + 4)
-  wrote-4 a b c d e =
-      let p : at + 2 ≡ suc (suc at) = omega arith in
-      let q : at + 3 ≡ suc (suc (suc at)) = omega arith in
-      rw e (record { end = refl; bytes-there = rw (add-one, p, q) })
+  pub wrote-4 : (x y : ℕ) (l₁ l₂ : List ℕ) → w ≡ twoDigits x ++ twoDigits y → l₁ ≡ sets l at (twoDigits x) → l₂ ≡ sets l₁ (at + 2) (twoDigits y)
+      → Wrote w at l l₂ (at + 4)
+  wrote-4 x y l₁ l₂ e a b =
+      rw e (record { end = refl; bytes-there = b ∙ ap (λ (m : List ℕ). sets m (at + 2) (twoDigits y)) a ∙ sym (sets-append l at (twoDigits x) (twoDigits y)) })
 
 in-a-row : (l l₁ l₂ u v : List ℕ) (at x y : ℕ) → x ≡ at + 1 + length u → l₁ ≡ sets (set l at 40) (at + 1) u
     → y ≡ x + 1 + length v → l₂ ≡ sets (set l₁ x 44) (x + 1) v
@@ -49,33 +55,6 @@ wrote-pair l l₁ l₂ u v at x y a b =
       end = omega (arith, a .end, b .end, pair-length u v);
       bytes-there = in-a-row l l₁ l₂ u v at x y (a .end) (a .bytes-there) (b .end) (b .bytes-there);
     }
-
-module _ (n : ℕ) (left right : List ℕ) (o : Ordered n left right) where
-  pub leaf-text : (k : ℕ) → k < n → nodeText (treeAt n left right k) ≡ digits 4 k
-  unfolding nodeText
-  leaf-text k h = rw (tree-leaf n left right k h)
-
-  module _ (k : ℕ) (h : n ≤ k) (g : k < n + (n - 1)) where
-    pub left-child : getD left (k - n) 0 < k
-    left-child = omega (arith, o .left-below (k - n) (omega arith))
-
-    pub right-child : getD right (k - n) 0 < k
-    right-child = omega (arith, o .right-below (k - n) (omega arith))
-
-    -- the text of a pair, the child with the smaller least leaf first
-    pub pair-text : nodeText (treeAt n left right k)
-        ≡ pairText (nodeText (treeAt n left right (getD left (k - n) 0))) (nodeText (treeAt n left right (getD right (k - n) 0)))
-    unfolding nodeText
-    pair-text =
-        let j : k - n < n - 1 = omega arith in
-        let e : k ≡ n + (k - n) = omega arith in
-        let t : treeAt n left right k ≡ node (treeAt n left right (getD left (k - n) 0)) (treeAt n left right (getD right (k - n) 0)) =
-        ap (treeAt n left right) e ∙ tree-pair n left right (k - n) j (o .lefts-there) (o .rights-there) (o .left-below (k - n) j) (o .right-below (k - n) j) in
-        rw (t, lt-ltb (least (treeAt n left right (getD left (k - n) 0))) (least (treeAt n left right (getD right (k - n) 0))) (o .smaller-first (k - n) j))
-
-    pub pair-text-length : length (nodeText (treeAt n left right k))
-        ≡ length (nodeText (treeAt n left right (getD left (k - n) 0))) + length (nodeText (treeAt n left right (getD right (k - n) 0))) + 3
-    pair-text-length = ap length pair-text ∙ pair-length (nodeText (treeAt n left right (getD left (k - n) 0))) (nodeText (treeAt n left right (getD right (k - n) 0)))
 
 pub text-room : (t : Tree) → length (textOf t) ≡ length (nodeText t) + 1
 unfolding textOf

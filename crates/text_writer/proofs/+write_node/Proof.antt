@@ -1,12 +1,13 @@
 use native.Mathlib.Omega.{arith}
 use borrow.Author.Needs.{needs}
-use Rattle.text_writer.proofs.Writing.{wrote-pair, leaf-text, left-child, right-child, pair-text, pair-text-length}
-use Rattle.rules.specs.Newick.{nodeText, pairText}
+use Prim.Native.Nat.{ℕ, _+_, _-_, _<_}
+use mathlib.Core.Logic.{⊎-elim}
+use lib.ListN.{getD, set}
+use Rattle.rules.specs.Newick.{nodeText}
+use Rattle.table_laws.specs.Tied.{treeAt}
 use Rattle.text_writer.specs.Output.{Wrote}
-use mathlib.Core.Path.{_≡_, _∙_, sym, ap, subst}
-use mathlib.Core.List.{List}
-use lib.ListN.{length, length-set}
-use Prim.Native.Nat.{ℕ, _-_, _<_}
+use Rattle.text_writer.proofs.Writing.{wrote-as, wrote-length}
+use Rattle.text_writer.proofs.Nodes.{leaf-room, leaf-wrote, left-child, right-child, open-room, first-room, comma-room, second-room, close-room, pair-wrote}
 use borrow.Fn.Kinds.{In}
 use borrow.Fn.PlainCycle.{Measures, is, falls, and}
 use Rattle.text_writer.proofs.write_node.Reads as write-node
@@ -27,34 +28,44 @@ abbrev write-node-below : ℕ → In 3 write-node-kinds.ps
 write-node-below t =
     and 3 write-node-kinds.ps (falls 3 write-node-kinds.ps _<_ μ-write-node t) write-node.Pre
 
--- src/lib.rt:232:9
-write-node-write-label-requires : (t : ℕ) → write-node-lts.Need-write-label-requires (
+-- the first child stands, whether it is a leaf or a pair
+first : (t : ℕ) (c : write-node-lts.Joined1 (
+  write-label-reads.Asked,
+  write-label-reads.Learnt,
+  write-node-below t,
+  write-node.Post,
+) (write-node-at t) write-node.Post)
+    → Wrote (nodeText (treeAt (c .before .before .before .before .before .before .args .n) (c .before .before .before .before .before .before .args .left .now) (c .before .before .before .before .before .before .args .right .now) (getD (c .before .before .before .before .before .before .args .left .now) (c .before .before .before .before .before .before .args .node - c .before .before .before .before .before .before .args .n) 0))) (c .before .before .before .before .before .before .args .at + 1) (set (c .before .before .before .before .before .before .args .out .now) (c .before .before .before .before .before .before .args .at) 40) (c .if1 .out) (c .if1 .x)
+first t c =
+    ⊎-elim
+    (λ w. wrote-as (w .5) (w .6) (leaf-wrote (first-room (c .before .before .before .before .before .before .pre .1 .0) (c .before .before .before .before .before .before .pre .1 .1)) (w .0 .taken) (w .2 .ensures)))
+    (λ w. wrote-as (w .5) (w .6) (w .2 .ensures))
+    (c .if1 .came)
+
+-- and so the second
+second : (t : ℕ) (c : write-node-lts.Joined2 (
+  write-label-reads.Asked,
+  write-label-reads.Learnt,
+  write-node-below t,
+  write-node.Post,
+) (write-node-at t) write-node.Post)
+    → Wrote (nodeText (treeAt (c .before .before .before .before .before .before .before .args .n) (c .before .before .before .before .before .before .before .args .left .now) (c .before .before .before .before .before .before .before .args .right .now) (getD (c .before .before .before .before .before .before .before .args .right .now) (c .before .before .before .before .before .before .before .args .node - c .before .before .before .before .before .before .before .args .n) 0))) (c .before .if1 .x + 1) (set (c .before .if1 .out) (c .before .if1 .x) 44) (c .if2 .out) (c .if2 .y)
+second t c =
+    ⊎-elim
+    (λ w. wrote-as (w .6) (w .7) (leaf-wrote (second-room (c .before .before .before .before .before .before .before .pre .1 .0) (c .before .before .before .before .before .before .before .pre .1 .1) (first t (c .before))) (w .0 .taken) (w .3 .ensures)))
+    (λ w. wrote-as (w .6) (w .7) (w .3 .ensures))
+    (c .if2 .came)
+
+-- src/lib.rt:68:13
+write-node-sub-k : (t : ℕ) → write-node-lts.Need-sub-k (
   write-label-reads.Asked,
   write-label-reads.Learnt,
   write-node-below t,
   write-node.Post,
 ) (write-node-at t) write-node.Post
-write-node-write-label-requires t c κs = (omega (arith, c .before .before .before .before .before .pre .1 .0 .0 .few), omega (arith, c .before .before .before .before .before .pre .1 .1, ap length (leaf-text (c .before .before .before .before .before .args .n) (c .before .before .before .before .before .args .left .now) (c .before .before .before .before .before .args .right .now) (c .before .before .before .before .before .pre .1 .0 .0) (c .before .before .before .before .before .args .node) (c .before .if1 .taken))))
+write-node-sub-k t c = search needs
 
--- src/lib.rt:232:9
-write-node-same-length : (t : ℕ) → write-node-lts.Need-same-length (
-  write-label-reads.Asked,
-  write-label-reads.Learnt,
-  write-node-below t,
-  write-node.Post,
-) (write-node-at t) write-node.Post
-write-node-same-length t c = search needs
-
--- src/lib.rt:232:9
-write-node-returns : (t : ℕ) → write-node-lts.Need-returns (
-  write-label-reads.Asked,
-  write-label-reads.Learnt,
-  write-node-below t,
-  write-node.Post,
-) (write-node-at t) write-node.Post
-write-node-returns t c = rw (leaf-text (c .before .before .before .before .before .before .before .before .args .n) (c .before .before .before .before .before .before .before .before .args .left .now) (c .before .before .before .before .before .before .before .before .args .right .now) (c .before .before .before .before .before .before .before .before .pre .1 .0 .0) (c .before .before .before .before .before .before .before .before .args .node) (c .before .before .before .before .if1 .taken)) (c .before .before .write-label .ensures)
-
--- src/lib.rt:235:13
+-- src/lib.rt:69:13
 write-node-mul-l : (t : ℕ) → write-node-lts.Need-mul-l (
   write-label-reads.Asked,
   write-label-reads.Learnt,
@@ -63,7 +74,7 @@ write-node-mul-l : (t : ℕ) → write-node-lts.Need-mul-l (
 ) (write-node-at t) write-node.Post
 write-node-mul-l t c = search needs
 
--- src/lib.rt:235:13
+-- src/lib.rt:69:13
 write-node-shared-slice-read-l : (t : ℕ) → write-node-lts.Need-shared-slice-read-l (
   write-label-reads.Asked,
   write-label-reads.Learnt,
@@ -72,16 +83,16 @@ write-node-shared-slice-read-l : (t : ℕ) → write-node-lts.Need-shared-slice-
 ) (write-node-at t) write-node.Post
 write-node-shared-slice-read-l t c = search needs
 
--- src/lib.rt:235:13
+-- src/lib.rt:69:13
 write-node-cast-l : (t : ℕ) → write-node-lts.Need-cast-l (
   write-label-reads.Asked,
   write-label-reads.Learnt,
   write-node-below t,
   write-node.Post,
 ) (write-node-at t) write-node.Post
-write-node-cast-l t c = omega (arith, c .shared-slice-known3 .given (c .before .before .before .before .before .args .node - c .before .before .before .before .before .args .n))
+write-node-cast-l t c = omega (arith, c .shared-slice-known3 .given (c .before .before .before .before .args .node - c .before .before .before .before .args .n))
 
--- src/lib.rt:236:13
+-- src/lib.rt:70:13
 write-node-mul-r : (t : ℕ) → write-node-lts.Need-mul-r (
   write-label-reads.Asked,
   write-label-reads.Learnt,
@@ -90,7 +101,7 @@ write-node-mul-r : (t : ℕ) → write-node-lts.Need-mul-r (
 ) (write-node-at t) write-node.Post
 write-node-mul-r t c = search needs
 
--- src/lib.rt:236:13
+-- src/lib.rt:70:13
 write-node-shared-slice-read-r : (t : ℕ) → write-node-lts.Need-shared-slice-read-r (
   write-label-reads.Asked,
   write-label-reads.Learnt,
@@ -99,25 +110,43 @@ write-node-shared-slice-read-r : (t : ℕ) → write-node-lts.Need-shared-slice-
 ) (write-node-at t) write-node.Post
 write-node-shared-slice-read-r t c = search needs
 
--- src/lib.rt:236:13
+-- src/lib.rt:70:13
 write-node-cast-r : (t : ℕ) → write-node-lts.Need-cast-r (
   write-label-reads.Asked,
   write-label-reads.Learnt,
   write-node-below t,
   write-node.Post,
 ) (write-node-at t) write-node.Post
-write-node-cast-r t c = omega (arith, c .shared-slice-known4 .given (c .before .before .before .before .before .before .args .node - c .before .before .before .before .before .before .args .n))
+write-node-cast-r t c = omega (arith, c .shared-slice-known4 .given (c .before .before .before .before .before .args .node - c .before .before .before .before .before .args .n))
 
--- src/lib.rt:237:5
+-- src/lib.rt:71:5
 write-node-slice-write-out : (t : ℕ) → write-node-lts.Need-slice-write-out (
   write-label-reads.Asked,
   write-label-reads.Learnt,
   write-node-below t,
   write-node.Post,
 ) (write-node-at t) write-node.Post
-write-node-slice-write-out t c = omega (arith, pair-text-length (c .before .before .before .before .before .before .args .n) (c .before .before .before .before .before .before .args .left .now) (c .before .before .before .before .before .before .args .right .now) (c .before .before .before .before .before .before .pre .1 .0 .0) (c .before .before .before .before .before .before .args .node) (c .before .before .if1 .left) (c .before .before .before .before .before .before .pre .1 .0 .1), c .before .before .before .before .before .before .pre .1 .1)
+write-node-slice-write-out t c = open-room (c .before .before .before .before .before .pre .1 .0) (c .before .before .before .before .before .pre .1 .1)
 
--- src/lib.rt:238:48
+-- src/lib.rt:73:29
+write-node-add-write-label : (t : ℕ) → write-node-lts.Need-add-write-label (
+  write-label-reads.Asked,
+  write-label-reads.Learnt,
+  write-node-below t,
+  write-node.Post,
+) (write-node-at t) write-node.Post
+write-node-add-write-label t c = search needs
+
+-- src/lib.rt:73:9
+write-node-write-label-requires : (t : ℕ) → write-node-lts.Need-write-label-requires (
+  write-label-reads.Asked,
+  write-label-reads.Learnt,
+  write-node-below t,
+  write-node.Post,
+) (write-node-at t) write-node.Post
+write-node-write-label-requires t c κs = leaf-room (first-room (c .before .before .before .before .before .before .before .pre .1 .0) (c .before .before .before .before .before .before .before .pre .1 .1)) (c .before .if1 .taken)
+
+-- src/lib.rt:75:44
 write-node-add-write-node : (t : ℕ) → write-node-lts.Need-add-write-node (
   write-label-reads.Asked,
   write-label-reads.Learnt,
@@ -126,77 +155,95 @@ write-node-add-write-node : (t : ℕ) → write-node-lts.Need-add-write-node (
 ) (write-node-at t) write-node.Post
 write-node-add-write-node t c = search needs
 
--- src/lib.rt:238:9
+-- src/lib.rt:75:9
 write-node-write-node-requires : (t : ℕ) → write-node-lts.Need-write-node-requires (
   write-label-reads.Asked,
   write-label-reads.Learnt,
   write-node-below t,
   write-node.Post,
 ) (write-node-at t) write-node.Post
-write-node-write-node-requires t c κs = (omega (arith, left-child (c .before .before .before .before .before .before .before .args .n) (c .before .before .before .before .before .before .before .args .left .now) (c .before .before .before .before .before .before .before .args .right .now) (c .before .before .before .before .before .before .before .pre .1 .0 .0) (c .before .before .before .before .before .before .before .args .node) (c .before .before .before .if1 .left) (c .before .before .before .before .before .before .before .pre .1 .0 .1)), ((c .before .before .before .before .before .before .before .pre .1 .0 .0, omega (arith, left-child (c .before .before .before .before .before .before .before .args .n) (c .before .before .before .before .before .before .before .args .left .now) (c .before .before .before .before .before .before .before .args .right .now) (c .before .before .before .before .before .before .before .pre .1 .0 .0) (c .before .before .before .before .before .before .before .args .node) (c .before .before .before .if1 .left) (c .before .before .before .before .before .before .before .pre .1 .0 .1), c .before .before .before .before .before .before .before .pre .1 .0 .1)), simp length-set (omega (arith, pair-text-length (c .before .before .before .before .before .before .before .args .n) (c .before .before .before .before .before .before .before .args .left .now) (c .before .before .before .before .before .before .before .args .right .now) (c .before .before .before .before .before .before .before .pre .1 .0 .0) (c .before .before .before .before .before .before .before .args .node) (c .before .before .before .if1 .left) (c .before .before .before .before .before .before .before .pre .1 .0 .1), c .before .before .before .before .before .before .before .pre .1 .1))))
+write-node-write-node-requires t c κs = (omega (arith, left-child (c .before .before .before .before .before .before .before .pre .1 .0) (c .before .before .before .before .before .before .before .pre .1 .1)), (first-room (c .before .before .before .before .before .before .before .pre .1 .0) (c .before .before .before .before .before .before .before .pre .1 .1), c .before .if1 .left))
 
--- src/lib.rt:239:5
+-- src/lib.rt:77:5
 write-node-slice-write-out-2 : (t : ℕ) → write-node-lts.Need-slice-write-out-2 (
   write-label-reads.Asked,
   write-label-reads.Learnt,
   write-node-below t,
   write-node.Post,
 ) (write-node-at t) write-node.Post
-write-node-slice-write-out-2 t c = omega (arith, pair-text-length (c .before .before .before .before .before .before .before .before .before .before .args .n) (c .before .before .before .before .before .before .before .before .before .before .args .left .now) (c .before .before .before .before .before .before .before .before .before .before .args .right .now) (c .before .before .before .before .before .before .before .before .before .before .pre .1 .0 .0) (c .before .before .before .before .before .before .before .before .before .before .args .node) (c .before .before .before .before .before .before .if1 .left) (c .before .before .before .before .before .before .before .before .before .before .pre .1 .0 .1), c .before .before .before .before .before .before .before .before .before .before .pre .1 .1, c .before .before .write-node .ensures .end, c .before .before .write-node .kept .1 .1 .1 .1 .0, length-set (c .before .before .before .before .before .before .before .before .before .before .args .out .now) (c .before .before .before .before .before .before .before .before .before .before .args .at) 40)
+write-node-slice-write-out-2 t c = comma-room (c .before .before .before .before .before .before .pre .1 .0) (c .before .before .before .before .before .before .pre .1 .1) (first t c) .1
 
--- src/lib.rt:240:48
+-- src/lib.rt:79:29
+write-node-add-write-label-2 : (t : ℕ) → write-node-lts.Need-add-write-label-2 (
+  write-label-reads.Asked,
+  write-label-reads.Learnt,
+  write-node-below t,
+  write-node.Post,
+) (write-node-at t) write-node.Post
+write-node-add-write-label-2 t c = omega (arith, comma-room (c .before .before .before .before .before .before .before .before .before .pre .1 .0) (c .before .before .before .before .before .before .before .before .before .pre .1 .1) (first t (c .before .before .before)) .0)
+
+-- src/lib.rt:79:9
+write-node-write-label-requires-2 : (t : ℕ) → write-node-lts.Need-write-label-requires-2 (
+  write-label-reads.Asked,
+  write-label-reads.Learnt,
+  write-node-below t,
+  write-node.Post,
+) (write-node-at t) write-node.Post
+write-node-write-label-requires-2 t c κs = leaf-room (second-room (c .before .before .before .before .before .before .before .before .before .pre .1 .0) (c .before .before .before .before .before .before .before .before .before .pre .1 .1) (first t (c .before .before .before))) (c .before .before .if2 .taken)
+
+-- src/lib.rt:81:44
 write-node-add-write-node-2 : (t : ℕ) → write-node-lts.Need-add-write-node-2 (
   write-label-reads.Asked,
   write-label-reads.Learnt,
   write-node-below t,
   write-node.Post,
 ) (write-node-at t) write-node.Post
-write-node-add-write-node-2 t c = omega (arith, pair-text-length (c .before .before .before .before .before .before .before .before .before .before .before .args .n) (c .before .before .before .before .before .before .before .before .before .before .before .args .left .now) (c .before .before .before .before .before .before .before .before .before .before .before .args .right .now) (c .before .before .before .before .before .before .before .before .before .before .before .pre .1 .0 .0) (c .before .before .before .before .before .before .before .before .before .before .before .args .node) (c .before .before .before .before .before .before .before .if1 .left) (c .before .before .before .before .before .before .before .before .before .before .before .pre .1 .0 .1), c .before .before .before .before .before .before .before .before .before .before .before .pre .1 .1, c .before .before .before .write-node .ensures .end)
+write-node-add-write-node-2 t c = omega (arith, comma-room (c .before .before .before .before .before .before .before .before .before .pre .1 .0) (c .before .before .before .before .before .before .before .before .before .pre .1 .1) (first t (c .before .before .before)) .0)
 
--- src/lib.rt:240:9
+-- src/lib.rt:81:9
 write-node-write-node-requires-2 : (t : ℕ) → write-node-lts.Need-write-node-requires-2 (
   write-label-reads.Asked,
   write-label-reads.Learnt,
   write-node-below t,
   write-node.Post,
 ) (write-node-at t) write-node.Post
-write-node-write-node-requires-2 t c κs = (omega (arith, right-child (c .before .before .before .before .before .before .before .before .before .before .before .args .n) (c .before .before .before .before .before .before .before .before .before .before .before .args .left .now) (c .before .before .before .before .before .before .before .before .before .before .before .args .right .now) (c .before .before .before .before .before .before .before .before .before .before .before .pre .1 .0 .0) (c .before .before .before .before .before .before .before .before .before .before .before .args .node) (c .before .before .before .before .before .before .before .if1 .left) (c .before .before .before .before .before .before .before .before .before .before .before .pre .1 .0 .1)), ((c .before .before .before .before .before .before .before .before .before .before .before .pre .1 .0 .0, omega (arith, right-child (c .before .before .before .before .before .before .before .before .before .before .before .args .n) (c .before .before .before .before .before .before .before .before .before .before .before .args .left .now) (c .before .before .before .before .before .before .before .before .before .before .before .args .right .now) (c .before .before .before .before .before .before .before .before .before .before .before .pre .1 .0 .0) (c .before .before .before .before .before .before .before .before .before .before .before .args .node) (c .before .before .before .before .before .before .before .if1 .left) (c .before .before .before .before .before .before .before .before .before .before .before .pre .1 .0 .1), c .before .before .before .before .before .before .before .before .before .before .before .pre .1 .0 .1)), simp length-set (omega (arith, pair-text-length (c .before .before .before .before .before .before .before .before .before .before .before .args .n) (c .before .before .before .before .before .before .before .before .before .before .before .args .left .now) (c .before .before .before .before .before .before .before .before .before .before .before .args .right .now) (c .before .before .before .before .before .before .before .before .before .before .before .pre .1 .0 .0) (c .before .before .before .before .before .before .before .before .before .before .before .args .node) (c .before .before .before .before .before .before .before .if1 .left) (c .before .before .before .before .before .before .before .before .before .before .before .pre .1 .0 .1), c .before .before .before .before .before .before .before .before .before .before .before .pre .1 .1, c .before .before .before .write-node .ensures .end, c .before .before .before .write-node .kept .1 .1 .1 .1 .0, length-set (c .before .before .before .before .before .before .before .before .before .before .before .args .out .now) (c .before .before .before .before .before .before .before .before .before .before .before .args .at) 40))))
+write-node-write-node-requires-2 t c κs = (omega (arith, right-child (c .before .before .before .before .before .before .before .before .before .pre .1 .0) (c .before .before .before .before .before .before .before .before .before .pre .1 .1)), (second-room (c .before .before .before .before .before .before .before .before .before .pre .1 .0) (c .before .before .before .before .before .before .before .before .before .pre .1 .1) (first t (c .before .before .before)), c .before .before .if2 .left))
 
--- src/lib.rt:241:5
+-- src/lib.rt:83:5
 write-node-slice-write-out-3 : (t : ℕ) → write-node-lts.Need-slice-write-out-3 (
   write-label-reads.Asked,
   write-label-reads.Learnt,
   write-node-below t,
   write-node.Post,
 ) (write-node-at t) write-node.Post
-write-node-slice-write-out-3 t c = omega (arith, pair-text-length (c .before .before .before .before .before .before .before .before .before .before .before .before .before .before .args .n) (c .before .before .before .before .before .before .before .before .before .before .before .before .before .before .args .left .now) (c .before .before .before .before .before .before .before .before .before .before .before .before .before .before .args .right .now) (c .before .before .before .before .before .before .before .before .before .before .before .before .before .before .pre .1 .0 .0) (c .before .before .before .before .before .before .before .before .before .before .before .before .before .before .args .node) (c .before .before .before .before .before .before .before .before .before .before .if1 .left) (c .before .before .before .before .before .before .before .before .before .before .before .before .before .before .pre .1 .0 .1), c .before .before .before .before .before .before .before .before .before .before .before .before .before .before .pre .1 .1, c .before .before .before .before .before .before .write-node .ensures .end, c .before .before .write-node2 .ensures .end, c .before .before .before .before .before .before .write-node .kept .1 .1 .1 .1 .0, length-set (c .before .before .before .before .before .before .before .before .before .before .before .before .before .before .args .out .now) (c .before .before .before .before .before .before .before .before .before .before .before .before .before .before .args .at) 40, c .before .before .write-node2 .kept .1 .1 .1 .1 .0, length-set (c .before .before .before .before .before .before .write-node .last .1 .1 .1 .1 .0) (c .before .before .before .before .before .before .write-node .result) 44)
+write-node-slice-write-out-3 t c = close-room (c .before .before .before .before .before .before .before .pre .1 .0) (c .before .before .before .before .before .before .before .pre .1 .1) (first t (c .before)) (second t c) .1
 
--- src/lib.rt:242:5
+-- src/lib.rt:84:5
 write-node-add-result : (t : ℕ) → write-node-lts.Need-add-result (
   write-label-reads.Asked,
   write-label-reads.Learnt,
   write-node-below t,
   write-node.Post,
 ) (write-node-at t) write-node.Post
-write-node-add-result t c = omega (arith, pair-text-length (c .before .before .before .before .before .before .before .before .before .before .before .before .before .before .args .n) (c .before .before .before .before .before .before .before .before .before .before .before .before .before .before .args .left .now) (c .before .before .before .before .before .before .before .before .before .before .before .before .before .before .args .right .now) (c .before .before .before .before .before .before .before .before .before .before .before .before .before .before .pre .1 .0 .0) (c .before .before .before .before .before .before .before .before .before .before .before .before .before .before .args .node) (c .before .before .before .before .before .before .before .before .before .before .if1 .left) (c .before .before .before .before .before .before .before .before .before .before .before .before .before .before .pre .1 .0 .1), c .before .before .before .before .before .before .before .before .before .before .before .before .before .before .pre .1 .1, c .before .before .before .before .before .before .write-node .ensures .end, c .before .before .write-node2 .ensures .end)
+write-node-add-result t c = omega (arith, close-room (c .before .before .before .before .before .before .before .before .pre .1 .0) (c .before .before .before .before .before .before .before .before .pre .1 .1) (first t (c .before .before)) (second t (c .before)) .0)
 
--- src/lib.rt:226:1
-write-node-same-length-2 : (t : ℕ) → write-node-lts.Need-same-length-2 (
+-- src/lib.rt:56:1
+write-node-same-length : (t : ℕ) → write-node-lts.Need-same-length (
   write-label-reads.Asked,
   write-label-reads.Learnt,
   write-node-below t,
   write-node.Post,
 ) (write-node-at t) write-node.Post
-write-node-same-length-2 t c = simp length-set (c .before .before .write-node2 .kept .1 .1 .1 .1 .0 ∙ simp length-set (c .before .before .before .before .before .before .write-node .kept .1 .1 .1 .1 .0 ∙ simp length-set))
+write-node-same-length t c = wrote-length (pair-wrote (c .before .before .before .before .before .before .before .before .pre .1 .0) (c .before .before .before .before .before .before .before .before .pre .1 .1) (first t (c .before .before)) (second t (c .before)))
 
--- src/lib.rt:226:1
-write-node-returns-2 : (t : ℕ) → write-node-lts.Need-returns-2 (
+-- src/lib.rt:56:1
+write-node-returns : (t : ℕ) → write-node-lts.Need-returns (
   write-label-reads.Asked,
   write-label-reads.Learnt,
   write-node-below t,
   write-node.Post,
 ) (write-node-at t) write-node.Post
-write-node-returns-2 t c = rw (pair-text (c .before .before .before .before .before .before .before .before .before .before .before .before .before .before .args .n) (c .before .before .before .before .before .before .before .before .before .before .before .before .before .before .args .left .now) (c .before .before .before .before .before .before .before .before .before .before .before .before .before .before .args .right .now) (c .before .before .before .before .before .before .before .before .before .before .before .before .before .before .pre .1 .0 .0) (c .before .before .before .before .before .before .before .before .before .before .before .before .before .before .args .node) (c .before .before .before .before .before .before .before .before .before .before .if1 .left) (c .before .before .before .before .before .before .before .before .before .before .before .before .before .before .pre .1 .0 .1)) (wrote-pair (c .before .before .before .before .before .before .before .before .before .before .before .before .before .before .args .out .now) _ _ _ _ (c .before .before .before .before .before .before .before .before .before .before .before .before .before .before .args .at) _ _ (c .before .before .before .before .before .before .write-node .ensures) (c .before .before .write-node2 .ensures))
+write-node-returns t c = pair-wrote (c .before .before .before .before .before .before .before .before .pre .1 .0) (c .before .before .before .before .before .before .before .before .pre .1 .1) (first t (c .before .before)) (second t (c .before))
 
 pub +write-node-spec : {M : Type 1} → statement M
 +write-node-spec = close μ-write-node λ t. write-node-lts.spec (
@@ -207,9 +254,7 @@ pub +write-node-spec : {M : Type 1} → statement M
 )
     (write-node-at t)
     write-node.Post
-    (write-node-write-label-requires t)
-    (write-node-same-length t)
-    (write-node-returns t)
+    (write-node-sub-k t)
     (write-node-mul-l t)
     (write-node-shared-slice-read-l t)
     (write-node-cast-l t)
@@ -217,12 +262,16 @@ pub +write-node-spec : {M : Type 1} → statement M
     (write-node-shared-slice-read-r t)
     (write-node-cast-r t)
     (write-node-slice-write-out t)
+    (write-node-add-write-label t)
+    (write-node-write-label-requires t)
     (write-node-add-write-node t)
     (write-node-write-node-requires t)
     (write-node-slice-write-out-2 t)
+    (write-node-add-write-label-2 t)
+    (write-node-write-label-requires-2 t)
     (write-node-add-write-node-2 t)
     (write-node-write-node-requires-2 t)
     (write-node-slice-write-out-3 t)
     (write-node-add-result t)
-    (write-node-same-length-2 t)
-    (write-node-returns-2 t)
+    (write-node-same-length t)
+    (write-node-returns t)

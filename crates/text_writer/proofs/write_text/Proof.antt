@@ -1,59 +1,72 @@
 use native.Mathlib.Omega.{arith}
 use borrow.Author.Needs.{needs}
-use Rattle.text_writer.proofs.Writing.{text-room, wrote-end}
-use Rattle.table_laws.specs.Tied.{treeAt, wholeTree}
-use Prim.Native.Nat.{ℕ, _+_, _-_}
-use mathlib.Core.Path.{_≡_, refl, _∙_, sym, ap}
-use lib.ListN.{length, getD, length-set}
+use Prim.Native.Nat.{_+_, _-_}
+use mathlib.Core.Logic.{⊎-elim}
+use lib.ListN.{length-set}
+use Rattle.rules.specs.Newick.{nodeText}
+use Rattle.table_laws.specs.Tied.{treeAt}
+use Rattle.text_writer.specs.Output.{Wrote}
+use Rattle.text_writer.proofs.Writing.{wrote-as, wrote-length}
+use Rattle.text_writer.proofs.Nodes.{leaf-room, leaf-wrote, root-room, end-room, text-wrote}
 use Rattle.text_writer.proofs.write_text.Statement.{statement}
 use Rattle.text_writer.proofs.write_text.Tie as tie
 use Rattle.text_writer.proofs.write_text.Reads as reads
 use Rattle.text_writer.proofs.write_text.Lts as lts
+use Rattle.text_writer.proofs.write_label.Reads as write-label-reads
 use Rattle.text_writer.proofs.write_node.Reads as write-node-reads
 
--- src/lib.rt:262:45
-sub-write-node : tie.Need-sub-write-node
-sub-write-node c = omega (arith, c .before .before .before .pre .0 .some-leaf)
+-- the root stands, whether it is a leaf or a pair
+root : (c : tie.Joined1) → Wrote (nodeText (treeAt (c .before .before .before .before .args .n) (c .before .before .before .before .args .left .now) (c .before .before .before .before .args .right .now) (c .before .before .before .before .args .n + (c .before .before .before .before .args .n - 1) - 1))) 0 (c .before .before .before .before .args .out .now) (c .if1 .out) (c .if1 .x)
+root c =
+    ⊎-elim
+    (λ w. wrote-as (w .5) (w .6) (leaf-wrote (root-room (c .before .before .before .before .pre .0) (c .before .before .before .before .args .out .now) (c .before .before .before .before .pre .1)) (w .0 .taken) (w .2 .ensures)))
+    (λ w. wrote-as (w .5) (w .6) (w .2 .ensures))
+    (c .if1 .came)
 
--- src/lib.rt:262:40
-add-write-node : tie.Need-add-write-node
-add-write-node c = omega (arith, c .before .before .before .pre .0 .few)
+-- src/lib.rt:92:21
+sub-root : tie.Need-sub-root
+sub-root c = search needs
 
--- src/lib.rt:262:40
-sub-write-node-2 : tie.Need-sub-write-node-2
-sub-write-node-2 c = omega (arith, c .before .before .before .pre .0 .some-leaf)
+-- src/lib.rt:92:16
+add-root : tie.Need-add-root
+add-root c = search needs
 
--- src/lib.rt:262:9
+-- src/lib.rt:92:16
+sub-root-2 : tie.Need-sub-root-2
+sub-root-2 c = search needs
+
+-- src/lib.rt:94:9
+write-label-requires : tie.Need-write-label-requires
+write-label-requires c κs = leaf-room (root-room (c .before .before .before .before .before .pre .0) (c .before .before .before .before .before .args .out .now) (c .before .before .before .before .before .pre .1)) (c .before .if1 .taken)
+
+-- src/lib.rt:96:9
 write-node-requires : tie.Need-write-node-requires
-unfolding wholeTree
-write-node-requires c κs = ((c .before .before .before .before .pre .0, omega (arith, c .before .before .before .before .pre .0 .some-leaf)), omega (arith, c .before .before .before .before .pre .1, text-room (treeAt (c .before .before .before .before .args .n) (c .before .before .before .before .args .left .now) (c .before .before .before .before .args .right .now) (c .before .before .before .before .args .n + (c .before .before .before .before .args .n - 1) - 1))))
+write-node-requires c κs = (root-room (c .before .before .before .before .before .pre .0) (c .before .before .before .before .before .args .out .now) (c .before .before .before .before .before .pre .1), c .before .if1 .left)
 
--- src/lib.rt:263:5
+-- src/lib.rt:98:5
 slice-write-out : tie.Need-slice-write-out
-unfolding wholeTree
-slice-write-out c = omega (arith, c .before .before .before .before .before .before .before .pre .1, text-room (treeAt (c .before .before .before .before .before .before .before .args .n) (c .before .before .before .before .before .before .before .args .left .now) (c .before .before .before .before .before .before .before .args .right .now) (c .before .before .before .before .before .before .before .args .n + (c .before .before .before .before .before .before .before .args .n - 1) - 1)), c .before .before .write-node .ensures .end, c .before .before .write-node .kept .1 .1 .1 .1 .0)
+slice-write-out c = end-room (c .before .before .before .before .pre .0) (c .before .before .before .before .args .out .now) (c .before .before .before .before .pre .1) (root c) .1
 
--- src/lib.rt:264:5
+-- src/lib.rt:99:5
 add-result : tie.Need-add-result
-unfolding wholeTree
-add-result c = omega (arith, c .before .before .before .before .before .before .before .pre .1, text-room (treeAt (c .before .before .before .before .before .before .before .args .n) (c .before .before .before .before .before .before .before .args .left .now) (c .before .before .before .before .before .before .before .args .right .now) (c .before .before .before .before .before .before .before .args .n + (c .before .before .before .before .before .before .before .args .n - 1) - 1)), c .before .before .write-node .ensures .end)
+add-result c = omega (arith, end-room (c .before .before .before .before .before .pre .0) (c .before .before .before .before .before .args .out .now) (c .before .before .before .before .before .pre .1) (root (c .before)) .0)
 
--- src/lib.rt:257:1
+-- src/lib.rt:87:1
 same-length : tie.Need-same-length
-same-length c = search needs
+same-length c = simp length-set (wrote-length (root (c .before)))
 
--- src/lib.rt:257:1
+-- src/lib.rt:87:1
 returns : tie.Need-returns
-unfolding wholeTree
-returns c = wrote-end (treeAt (c .before .before .before .before .before .before .before .args .n) (c .before .before .before .before .before .before .before .args .left .now) (c .before .before .before .before .before .before .before .args .right .now) (c .before .before .before .before .before .before .before .args .n + (c .before .before .before .before .before .before .before .args .n - 1) - 1)) _ _ _ (c .before .before .write-node .ensures)
+returns c = text-wrote (c .before .before .before .before .before .pre .0) (c .before .before .before .before .before .args .out .now) (c .before .before .before .before .before .pre .1) (root (c .before))
 
 pub write-text-spec : {M : Type 1} → statement M
 write-text-spec =
     tie.close
     (tie.spec
-    sub-write-node
-    add-write-node
-    sub-write-node-2
+    sub-root
+    add-root
+    sub-root-2
+    write-label-requires
     write-node-requires
     slice-write-out
     add-result
