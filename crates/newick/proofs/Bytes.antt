@@ -1,5 +1,5 @@
 -- The readers' steps over the bytes from a place on, by the byte that stands there.
--- Main results: drop-byte, sign-at, longer-yes, longer-no, label-zero, label-whole, label-none.
+-- Main results: drop-byte, sign-there, sign-missing, longer-yes, label-zero, label-more, label-none, node-label, node-pair, node-deep.
 use mathlib.Core.Path.{_≡_, refl, ap, sym, subst, _∙_}
 use mathlib.Core.Bool.{Bool, true, false, cond, _&&_}
 use mathlib.Core.List.{List, [], _∷_, _++_}
@@ -15,7 +15,7 @@ use Rattle.rules.specs.Newick.{isDigit}
 use Rattle.rules.specs.Tree.{Tree, leaf, node}
 use Rattle.grammar.specs.Reading.{Reading, read, broken, Reader, sign, moreDigits, labelRead, bracketOrLabel, nodeRead, pairRead}
 use Rattle.basics.specs.Bools.{and-both}
-use Rattle.grammar.specs.Complete.{NoDigit, no-more}
+use Rattle.grammar.specs.Complete.{NoDigit}
 
 pub digit-range : (c : ℕ) → isDigit c ≡ true → (48 ≤ c) × (c ≤ 57)
 unfolding isDigit
@@ -73,9 +73,6 @@ pub longer-yes : (s : List ℕ) (at x : ℕ) → isDigit (getD s at 0) ≡ true 
     → moreDigits (suc k) x (drop at s) ≡ moreDigits k (10 * x + (getD s at 0 - 48)) (drop (at + 1) s)
 unfolding moreDigits
 longer-yes s at x h k = rw (drop-byte s at (place-digit s at h), h)
-
-pub longer-no : (s : List ℕ) (at x : ℕ) → isDigit (getD s at 0) ≡ false → (k : ℕ) → moreDigits (suc k) x (drop at s) ≡ moreDigits k x (drop at s)
-longer-no s at x h k = no-more (suc k) x (drop at s) (no-digit s at h) ∙ sym (no-more k x (drop at s) (no-digit s at h))
 
 pub label-zero : (s : List ℕ) (at : ℕ) → getD s at 0 ≡ 48 → labelRead (drop at s) ≡ read (drop (at + 1) s) (leaf 0)
 unfolding labelRead isDigit

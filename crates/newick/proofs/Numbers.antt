@@ -1,16 +1,16 @@
 -- A label read digit by digit. Main definitions: Digits. Main results: digits-one, digits-more, digits-stop, digits-full, whole-zero.
-use mathlib.Core.Path.{_≡_, refl, ap, sym, subst, _∙_}
-use mathlib.Core.Bool.{Bool, true, false}
+use mathlib.Core.Path.{_≡_, ap, sym, _∙_}
+use mathlib.Core.Bool.{true, false}
 use mathlib.Core.List.{List}
 use Prim.Native.Nat.{ℕ, zero, suc, _+_, _-_, _*_, _/_, _%_, _≤_, _<_}
 use native.Mathlib.Omega.{arith}
 use lib.ListN.{length, getD, drop}
 use Rattle.rules.specs.Newick.{isDigit}
 use Rattle.rules.specs.Tree.{leaf}
-use Rattle.grammar.specs.Reading.{Reading, read, moreDigits, labelRead}
+use Rattle.grammar.specs.Reading.{read, moreDigits, labelRead}
 use Rattle.grammar.specs.Complete.{no-more}
 use Rattle.newick.specs.Lent.{Same, Whole}
-use Rattle.newick.proofs.Bytes.{digit-range, place-of, place-digit, no-digit, longer-yes, label-zero, label-more}
+use Rattle.newick.proofs.Bytes.{place-of, place-digit, no-digit, longer-yes, label-zero, label-more}
 
 -- the first i digits of a label make x, and k more may follow
 pub record Digits (s : List ℕ) (at i k x : ℕ) : Type 0 where

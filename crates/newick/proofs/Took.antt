@@ -4,16 +4,16 @@ use mathlib.Core.Path.{_≡_, refl, ap, ap₂, sym, subst, _∙_}
 use mathlib.Core.Bool.{Bool, true, false, cond}
 use mathlib.Core.List.{List, [], _∷_, _++_, append-assoc, map}
 use mathlib.Core.Option.{none}
-use mathlib.Core.Logic.{_⊎_, inl, inr}
+use mathlib.Core.Logic.{inl, inr}
 use Prim.Native.Nat.{ℕ, zero, suc, _+_, _-_, _*_, _/_, _%_, _≤_, _<_}
 use native.Mathlib.Omega.{arith}
 use lib.Dec.{eqb}
 use lib.ListN.{length, getD, drop, set, length-append, length-map, length-drop, length-set}
 use lib.Seq.{sets}
 use borrow.Author.Tests.{eqb-true, eqb-false}
-use Rattle.rules.specs.Newick.{isDigit, Placed, Label, labelsFrom, ending}
-use Rattle.rules.specs.Tree.{Tree, leaf, node}
-use Rattle.grammar.specs.Reading.{Reading, Reader, read, broken, seq, andThen, sign, labelRead, nodeRead, pairRead}
+use Rattle.rules.specs.Newick.{isDigit, Placed, labelsFrom, ending}
+use Rattle.rules.specs.Tree.{leaf, node}
+use Rattle.grammar.specs.Reading.{Reader, seq, andThen, sign, labelRead, nodeRead, pairRead}
 use Rattle.grammar.specs.Sound.{Reads, Outcome, Leaf, sound-label}
 use Rattle.grammar.specs.Labels.{label-labels, tail-labels, map-append}
 use Rattle.grammar.specs.Pairs.{pairCount, childCode, pairsFrom, pairs-length}

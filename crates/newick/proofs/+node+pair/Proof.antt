@@ -1,16 +1,14 @@
 use native.Mathlib.Omega.{arith}
 use borrow.Author.Needs.{needs}
-use Prim.Native.Nat.{ℕ, _+_, _-_, _*_, _<_, _≤_}
-use mathlib.Core.Logic.{_⊎_, inl, inr, ⊎-elim}
-use mathlib.Core.Bool.{Bool, true, false}
+use Prim.Native.Nat.{ℕ, _+_, _-_, _*_, _<_}
+use mathlib.Core.Logic.{inr, ⊎-elim}
 use mathlib.Core.List.{List}
 use mathlib.Core.Path.{_≡_, ap, sym, _∙_}
-use lib.ListN.{length, getD}
-use lib.Dec.{leb}
+use lib.ListN.{getD}
 use borrow.Author.Tests.{leb-true, leb-false}
 use Rattle.rules.specs.Newick.{isDigit}
 use Rattle.grammar.specs.Reading.{nodeRead}
-use Rattle.newick.specs.Lent.{Ready, Took, Broke}
+use Rattle.newick.specs.Lent.{Ready, Took}
 use Rattle.newick.proofs.Took.{broke-deep, broke-sign, answers-node, ready-inside, broke-first, broke-comma, ready-second, broke-second, closing, answers-pair, took, broke}
 use borrow.Fn.Kinds.{In}
 use borrow.Fn.PlainCycle.{Measures, is, falls, and}
