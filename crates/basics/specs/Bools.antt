@@ -1,4 +1,5 @@
 -- Small laws of tests: or, and.
+-- Main results: or-cases, or-left, or-right, or-no, or-comm, and-left, and-right, and-both, both.
 use mathlib.Core.Path.{_≡_, refl, sym}
 use mathlib.Core.Logic.{_⊎_, inl, inr}
 use mathlib.Core.Bool.{Bool, true, false, _&&_, _||_, false≢true, true≢false}

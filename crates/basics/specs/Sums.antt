@@ -1,6 +1,6 @@
 -- The sum of f 0 to f (n-1), and how many numbers below n pass a test.
 -- Main definitions: one, sumBelow. Main results: sum-cong, sum-plus, sum-zero, sum-mono, sum-at, sum-le, sum-full, sum-ones.
-use mathlib.Core.Path.{_≡_, refl, sym, ap₂}
+use mathlib.Core.Path.{_≡_, refl, ap₂}
 use mathlib.Core.Bool.{Bool, true, false, cond}
 use Prim.Native.Nat.{ℕ, zero, suc, _+_, _≤_, _<_}
 use native.Mathlib.Omega.{arith}

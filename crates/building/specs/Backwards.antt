@@ -13,6 +13,7 @@ use Rattle.rules.specs.Vector.{entry, bound, Valid}
 use Rattle.rules.specs.Building.{Merge, merges}
 use Rattle.rules.specs.Order.{entryAt, listed}
 use Rattle.basics.specs.Bools.{or-no}
+use Rattle.basics.specs.Listed.{length-listed, entry-listed}
 use Rattle.merging.specs.Insertion.{put, insert, pairsOf, pairs, Bounded, put-zero, put-suc, pairs-length, pairs-cong, valid-bounded}
 use Rattle.merging.specs.Once.{times, place, entryIn, without, once}
 use Rattle.merging.specs.Greedy.{touch, free, Ahead, Greedy, Under, under-pairs, greedy}
@@ -20,7 +21,6 @@ use Rattle.merging.specs.Named.{named, Good, good, Rising, rising}
 use Rattle.building.specs.Built.{merges-are-pairs}
 use Rattle.building.specs.Entry.{entry-last, entry-without}
 use Rattle.building.specs.Without.{once-at, times-without, rising-without, under-without, good-without, greedy-unput, place-below, length-without}
-use Rattle.basics.specs.Listed.{length-listed, entry-listed}
 
 -- The merge of the last leaf n comes first, or right behind one that it waits for; they have the smaller name in common.
 waits-for : (n : ℕ) (m p : Merge) (P : List Merge) → m .0 < m .1 → m .1 < n → p .1 ≡ n → Good (m ∷ p ∷ P) → free (m ∷ []) p ≡ false → m .0 ≡ p .0
@@ -137,7 +137,7 @@ pub record InOrder (n : ℕ) (P : List Merge) : Type 0 where
   pub of-leaves : Under n P
   pub each-once : (i : ℕ) → 1 ≤ i → i < n → times i P ≡ 1
 
-pub pairs-in-order : (v : ℕ → ℕ) (n : ℕ) → Bounded v n → InOrder n (pairsOf v n)
+pairs-in-order : (v : ℕ → ℕ) (n : ℕ) → Bounded v n → InOrder n (pairsOf v n)
 pairs-in-order v n ok = record {
   smaller-first = rising v n ok;
   of-clusters = good v n ok;

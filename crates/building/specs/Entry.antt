@@ -13,11 +13,11 @@ use Rattle.rules.specs.Vector.{entry, Valid}
 use Rattle.rules.specs.Building.{Merge, merges}
 use Rattle.rules.specs.Order.{earlier, partner, entryFrom, entryAt, listed}
 use Rattle.basics.specs.Bools.{and-false}
+use Rattle.basics.specs.Listed.{listed-cong, listed-entries}
 use Rattle.merging.specs.Insertion.{insert, pairsOf, pairs, Bounded, valid-bounded}
 use Rattle.merging.specs.Once.{times, place, entryIn, without, misses, never, fits, entryIn-insert, without-insert}
 use Rattle.merging.specs.Greedy.{Under, under-insert, under-pairs}
 use Rattle.merging.specs.Named.{Rising, rising-insert, rising}
-use Rattle.basics.specs.Listed.{listed-cong, listed-entries}
 use Rattle.building.specs.Built.{merges-are-pairs, merges-length}
 
 -- the last leaf sees all merges before its own
@@ -76,15 +76,15 @@ unfolding entryAt
 entry-without n i P h = ap₂ (entryFrom i) (partner-without n i P h) (earlier-without n i P h)
 
 -- a merge put in gives its leaf's entry back, and leaves those of the leaves below it
-pub entry-inserted : (n x : ℕ) (P : List Merge) → 1 ≤ n → Rising P → Under n P → times n P ≡ 0 → (n ≤ x → x - n < length P)
+entry-inserted : (n x : ℕ) (P : List Merge) → 1 ≤ n → Rising P → Under n P → times n P ≡ 0 → (n ≤ x → x - n < length P)
     → entryAt (insert n x P) n ≡ x
 entry-inserted n x P h g u z f = entry-last n (insert n x P) h (rising-insert n x P u g f) (under-insert n x P u) ∙ entryIn-insert n x P z f
 
-pub entry-kept : (n x i : ℕ) (P : List Merge) → i < n → times n P ≡ 0 → (n ≤ x → x - n < length P) → entryAt (insert n x P) i ≡ entryAt P i
+entry-kept : (n x i : ℕ) (P : List Merge) → i < n → times n P ≡ 0 → (n ≤ x → x - n < length P) → entryAt (insert n x P) i ≡ entryAt P i
 entry-kept n x i P h z f = sym (entry-without n i (insert n x P) h) ∙ ap (λ (Q : List Merge). entryAt Q i) (without-insert n x P z f)
 
 -- fact 2 for the merges that insertion makes
-pub entry-of-pairs : (v : ℕ → ℕ) (n : ℕ) → Bounded v n → (i : ℕ) → i < n → v i ≡ entryAt (pairsOf v n) i
+entry-of-pairs : (v : ℕ → ℕ) (n : ℕ) → Bounded v n → (i : ℕ) → i < n → v i ≡ entryAt (pairsOf v n) i
 unfolding pairsOf Bounded entryAt
 entry-of-pairs v zero ok i h = absurd (omega arith)
 entry-of-pairs v (suc zero) ok i h = omega (arith, ok i h)

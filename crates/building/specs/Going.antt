@@ -94,7 +94,7 @@ one-left v ok c h = rw (merges-are-pairs v ok) (go (eqb c 0) refl)
     go true q = rw (eqb-true c 0 q) (kept (pairsOf (entry v) (length v)) start 0 (zero-stays (entry v) (length v)))
     go false q = gone (pairsOf (entry v) (length v)) start c (once (entry v) (length v) c (omega (arith, eqb-false c 0 q)) h)
 
-pub after-next : (P : List Merge) (s : State) (k : ℕ) → k < length P → after (take (suc k) P) s ≡ merge (after (take k P) s) (getD P k (0, 0))
+after-next : (P : List Merge) (s : State) (k : ℕ) → k < length P → after (take (suc k) P) s ≡ merge (after (take k P) s) (getD P k (0, 0))
 unfolding after
 after-next [] s k h = absurd (omega arith)
 after-next (m ∷ P) s zero h = refl

@@ -1,5 +1,5 @@
 -- What a leaf calls the clusters it sees: the next label is the smallest it has not used, and no two clusters have the same.
--- Main definitions: Reached. Main results: smallest-is-unused, smaller-are-used, next-label, used-below, labels-apart.
+-- Main definitions: Reached. Main results: smallest-is-unused, smaller-are-used, unused-below, used-below, labels-apart.
 use mathlib.Core.Path.{_≡_, refl, sym, ap, _∙_}
 use mathlib.Core.Bool.{Bool, true, false, _&&_, _||_, cond, true≢false}
 use mathlib.Core.List.{List, [], _∷_}
@@ -92,7 +92,7 @@ unfolding smallestUnused
 smaller-are-used ys x h = smallest-members-below (length ys) 0 x ys (omega arith) h
 
 -- every number below n is in the list, and no other
-pub member-below : (x n : ℕ) → member x (below n) ≡ ltb x n
+member-below : (x n : ℕ) → member x (below n) ≡ ltb x n
 unfolding member below
 member-below x zero = sym (le-ltb x 0 (omega arith))
 member-below x (suc n) = rw (member-below x n) (go (eqb x n) refl)
@@ -105,7 +105,7 @@ member-below x (suc n) = rw (member-below x n) (go (eqb x n) refl)
         low true r = sym (lt-ltb x (suc n) (omega (arith, ltb-true x n r)))
         low false r = sym (le-ltb x (suc n) (omega (arith, ltb-false x n r, eqb-false x n q)))
 
-pub length-below : (n : ℕ) → length (below n) ≡ n
+length-below : (n : ℕ) → length (below n) ≡ n
 unfolding below
 length-below zero = refl
 length-below (suc n) = ap suc (length-below n)
@@ -121,11 +121,6 @@ unused-below n = go (sym (member-below (smallestUnused (below n)) n) ∙ smalles
 pub data Reached (v : ℕ → ℕ) (n : ℕ) : State → Type 0 where
   starts : Reached v n start
   goes : {s : State} {m : Merge} → Reached v n s → next v s n ≡ some m → Reached v n (merge s m)
-
--- "the smallest label j has not used": j has not used it, and has used all below it
-pub next-label : {v : ℕ → ℕ} {n : ℕ} {s : State} → Reached v n s → (j : ℕ)
-    → (member (smallestUnused (s .used j)) (s .used j) ≡ false) × ((x : ℕ) → x < smallestUnused (s .used j) → member x (s .used j) ≡ true)
-next-label {s = s} r j = (smallest-is-unused (s .used j), smaller-are-used (s .used j))
 
 -- the labels that a leaf has used are the numbers below some number
 pub used-merge : (s : State) (m : Merge) (j k : ℕ) → s .used j ≡ below k → (merge s m) .used j ≡ cond (ltb (m .1) j) (below (suc k)) (below k)
@@ -183,10 +178,6 @@ merge-apart s A m = record {
 reached-apart : {v : ℕ → ℕ} {n : ℕ} {s : State} → Reached v n s → Apart s
 reached-apart starts = start-apart
 reached-apart (goes {s} {m} r e) = merge-apart s (reached-apart r) m
-
--- a leaf has used each label that it gives
-pub labels-used : {v : ℕ → ℕ} {n : ℕ} {s : State} → Reached v n s → (j c : ℕ) → c < j → member (s .label j c) (s .used j) ≡ true
-labels-used r = reached-apart r .known
 
 -- at most one of the clusters that leaf j sees has a given label
 pub labels-apart : {v : ℕ → ℕ} {n : ℕ} {s : State} → Reached v n s → (j b c : ℕ) → b < j → c < j → s .label j b ≡ s .label j c → b ≡ c

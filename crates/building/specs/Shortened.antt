@@ -1,20 +1,18 @@
 -- A vector cut short: it is valid, and its merges are those of the whole vector whose larger name is left.
--- Main definitions: onlyBelow. Main results: valid-take, merges-take, merges-more, merges-less.
+-- Main definition: onlyBelow. Main results: valid-take, only-pairs, pairs-take.
 use mathlib.Core.Path.{_≡_, refl, sym, ap, _∙_}
 use mathlib.Core.Bool.{Bool, true, false, cond}
-use mathlib.Core.List.{List, [], _∷_, _++_}
-use Prim.Native.Nat.{ℕ, zero, suc, _+_, _-_, _*_, _≤_}
+use mathlib.Core.List.{List, [], _∷_}
+use Prim.Native.Nat.{ℕ, zero, suc, _-_, _≤_}
 use native.Mathlib.Omega.{arith}
 use lib.Dec.{eqb, ltb}
-use lib.ListN.{length, take, length-append}
-use lib.Seq.{getD-take, getD-append-seam, length-take-le, take-at}
+use lib.ListN.{length, take}
+use lib.Seq.{getD-take, length-take-le}
 use borrow.Author.Tests.{eqb-true, eqb-false, lt-ltb, le-ltb}
-use Rattle.rules.specs.Vector.{entry, bound, Valid}
-use Rattle.rules.specs.Building.{Merge, merges}
-use Rattle.merging.specs.Insertion.{put, insert, pairsOf, pairs, pairs-cong, pairs-snoc, pairs-count}
-use Rattle.merging.specs.Once.{without, never, without-insert}
+use Rattle.rules.specs.Vector.{entry, Valid}
+use Rattle.rules.specs.Building.{Merge}
+use Rattle.merging.specs.Insertion.{put, insert, pairsOf, pairs, pairs-cong}
 use Rattle.merging.specs.Greedy.{Under, under-pairs}
-use Rattle.building.specs.Built.{merges-are-pairs}
 
 -- the first m entries of a valid vector are a valid vector
 pub valid-take : (v : List ℕ) → Valid v → (m : ℕ) → 1 ≤ m → m ≤ length v → Valid (take m v)
@@ -31,7 +29,7 @@ unfoldable pub onlyBelow : ℕ → List Merge → List Merge
 onlyBelow n [] = []
 onlyBelow n (m ∷ P) = cond (ltb (m .1) n) (m ∷ onlyBelow n P) (onlyBelow n P)
 
-pub only-all : (n : ℕ) (P : List Merge) → Under n P → onlyBelow n P ≡ P
+only-all : (n : ℕ) (P : List Merge) → Under n P → onlyBelow n P ≡ P
 unfolding onlyBelow Under
 only-all n [] u = refl
 only-all n (m ∷ P) u = rw (lt-ltb (m .1) n (u .0)) (ap (λ (Q : List Merge). m ∷ Q) (only-all n P (u .1)))
@@ -70,37 +68,3 @@ pub pairs-take : (v : List ℕ) (m : ℕ) → 1 ≤ m → m ≤ length v → pai
 unfolding pairs entry
 pairs-take v m h l =
     rw (length-take-le m v l) (pairs-cong (entry (take m v)) (entry v) m (λ i k. getD-take m v i 0 k) ∙ sym (only-pairs (entry v) m (length v) h l))
-
--- the merges of the first m entries are those of the whole vector whose larger name is below m, in their order
-pub merges-take : (v : List ℕ) → Valid v → (m : ℕ) → 1 ≤ m → m ≤ length v → merges (take m v) ≡ onlyBelow m (merges v)
-merges-take v ok m h l = merges-are-pairs (take m v) (valid-take v ok m h l) ∙ pairs-take v m h l ∙ ap (onlyBelow m) (sym (merges-are-pairs v ok))
-
--- a valid vector without its last entry
-pub valid-init : (v : List ℕ) (x : ℕ) → 1 ≤ length v → Valid (v ++ (x ∷ [])) → Valid v
-valid-init v x h ok =
-    let e : length (v ++ (x ∷ [])) ≡ length v + 1 = length-append v (x ∷ []) in
-    rw take-at at (valid-take (v ++ (x ∷ [])) ok (length v) h (omega arith))
-
--- one entry more puts in one merge, and leaves the others as they were
-pub pairs-more : (v : List ℕ) (x : ℕ) → 1 ≤ length v → pairs (v ++ (x ∷ [])) ≡ insert (length v) x (pairs v)
-pairs-more [] x h = absurd (omega arith)
-pairs-more (y ∷ v) x h = pairs-snoc y v x
-
-pub last-bound : (v : List ℕ) (x : ℕ) → Valid (v ++ (x ∷ [])) → x ≤ 2 * (length v - 1)
-unfolding bound entry
-last-bound v x ok =
-    rw (getD-append-seam v x [] 0) at (ok .bounded (length v) (omega (arith, length-append v (x ∷ []))))
-
-pub pairs-less : (v : List ℕ) (x : ℕ) → 1 ≤ length v → Valid (v ++ (x ∷ [])) → without (length v) (pairs (v ++ (x ∷ []))) ≡ pairs v
-unfolding pairs
-pairs-less v x h ok =
-    ap (without (length v)) (pairs-more v x h)
-    ∙ without-insert (length v) x (pairs v) (never (entry v) (length v) (length v) (omega arith))
-    (λ l. omega (arith, last-bound v x ok, pairs-count (entry v) (length v)))
-
-pub merges-more : (v : List ℕ) (x : ℕ) → 1 ≤ length v → Valid (v ++ (x ∷ [])) → merges (v ++ (x ∷ [])) ≡ insert (length v) x (merges v)
-merges-more v x h ok =
-    merges-are-pairs (v ++ (x ∷ [])) ok ∙ pairs-more v x h ∙ ap (insert (length v) x) (sym (merges-are-pairs v (valid-init v x h ok)))
-
-pub merges-less : (v : List ℕ) (x : ℕ) → 1 ≤ length v → Valid (v ++ (x ∷ [])) → without (length v) (merges (v ++ (x ∷ []))) ≡ merges v
-merges-less v x h ok = ap (without (length v)) (merges-are-pairs (v ++ (x ∷ [])) ok) ∙ pairs-less v x h ok ∙ sym (merges-are-pairs v (valid-init v x h ok))

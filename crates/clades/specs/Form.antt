@@ -1,5 +1,5 @@
 -- The form of a tree: each pair turned so that the smaller least leaf stands first. Clades fix a tree up to turning pairs.
--- Main definitions: join, form, Turned. Main results: form-clades, form-turned, same-form, clades-up-to-turning, form-leaves-below, form-form.
+-- Main definitions: join, form, Turned. Main results: form-clades, form-turned, same-form, clades-up-to-turning.
 use mathlib.Core.Path.{_≡_, refl, sym, ap, ap₂, _∙_}
 use mathlib.Core.Logic.{_≢_, _⊎_, inl, inr, _↔_}
 use mathlib.Core.Bool.{Bool, true, false, cond}
@@ -7,9 +7,9 @@ use Prim.Native.Nat.{ℕ, _+_, _<_, min}
 use native.Mathlib.Omega.{arith}
 use lib.Dec.{ltb}
 use borrow.Author.Tests.{ltb-true, ltb-false, eqb-true, lt-ltb, le-ltb, eq-eqb}
-use Rattle.rules.specs.Tree.{Tree, leaf, node, has, least, size, Distinct, LeavesBelow, Clade, SameClades}
+use Rattle.rules.specs.Tree.{Tree, leaf, node, has, least, size, Distinct, Clade, SameClades}
 use Rattle.basics.specs.Bools.{or-right}
-use Rattle.clades.specs.Leaves.{Inside, has-left, has-right, has-cases, least-has, least-apart, fork, distinct-swap, leaves-below}
+use Rattle.clades.specs.Leaves.{Inside, has-left, has-right, has-cases, least-has, least-apart, fork, distinct-swap}
 use Rattle.clades.specs.Same.{root, clade-in, clade-some, same-refl, same-sym, same-trans, same-leaves, same-turn, same-node}
 
 -- the part with the smaller least leaf first
@@ -32,7 +32,7 @@ join-cases Q l r p q = go (ltb (least l) (least r))
     go false = q
 
 -- parts with the same clades, joined
-pub join-clades : (l r l′ r′ : Tree) → SameClades l l′ → SameClades r r′ → SameClades (node l r) (join l′ r′)
+join-clades : (l r l′ r′ : Tree) → SameClades l l′ → SameClades r r′ → SameClades (node l r) (join l′ r′)
 join-clades l r l′ r′ s z =
     let e = same-node l r l′ r′ s z in
     join-cases (SameClades (node l r)) l′ r′ e (same-trans (node l r) (node l′ r′) (node r′ l′) e (same-turn l′ r′))
@@ -70,11 +70,8 @@ form-distinct (node l r) D =
     (λ x p q. D .0 x (sym (form-has l x) ∙ p) (sym (form-has r x) ∙ q), form-distinct l (D .1), form-distinct r (D .2)) in
     join-cases Distinct (form l) (form r) D′ (distinct-swap (form l) (form r) D′)
 
-pub form-leaves-below : (n : ℕ) (t : Tree) → LeavesBelow n t → LeavesBelow n (form t)
-form-leaves-below n t L = leaves-below n t (form t) (form-distinct t (L .once)) (form-has t) L
-
 -- the form does not depend on which part stands first
-pub join-comm : (a b : Tree) → least a ≢ least b → join a b ≡ join b a
+join-comm : (a b : Tree) → least a ≢ least b → join a b ≡ join b a
 unfolding join
 join-comm a b h = go (ltb (least a) (least b)) refl
   where
@@ -188,10 +185,6 @@ same-form (node l r) (leaf y) D D′ s = absurd (fork y l r D (λ z. sym (same-l
 same-form (node l r) (node l′ r′) D D′ s =
     forks l r l′ r′ D D′ s (λ u Du su. same-form l u (D .1) Du su) (λ u Du su. same-form r u (D .2) Du su)
     (side l r l′ r′ D s) (side r l l′ r′ (distinct-swap l r D) (swap-first l r (node l′ r′) s))
-
--- the form of a form is itself
-pub form-form : (t : Tree) → Distinct t → form (form t) ≡ form t
-form-form t D = same-form (form t) t (form-distinct t D) D (same-sym t (form t) (form-clades t))
 
 -- clades fix a tree up to turning pairs
 pub clades-up-to-turning : (t u : Tree) → Distinct t → Distinct u → SameClades t u ↔ (form t ≡ form u)

@@ -1,15 +1,15 @@
 -- The leaves of a tree: its least leaf is one of them and at most each, and a leaf is not a fork.
 -- Main definition: Inside. Main results: has-left, has-right, has-cases, least-has, least-le, least-apart, below-some, below-least,
--- only-leaf, fork.
+-- only-leaf, fork, lacks.
 use mathlib.Core.Path.{_≡_, refl, sym, ap, _∙_}
-use mathlib.Core.Logic.{_≢_, _⊎_, inl, inr, ⊎-elim}
-use mathlib.Core.Bool.{Bool, true, _||_}
+use mathlib.Core.Logic.{_≢_, _⊎_, ⊎-elim}
+use mathlib.Core.Bool.{true, false}
 use Prim.Native.Nat.{ℕ, _≤_, min}
 use native.Mathlib.Omega.{arith}
 use borrow.Author.Tests.{ltb-true, eqb-true, lt-ltb, eq-eqb}
 use Rattle.rules.specs.Tree.{Tree, leaf, node, has, least, Distinct, LeavesBelow}
 use Rattle.basics.specs.Bools.{or-cases, or-left, or-right}
-use Rattle.basics.specs.Cases.{by-lt}
+use Rattle.basics.specs.Cases.{by-lt, by-test}
 
 -- every leaf of t is one of u
 unfoldable pub Inside : Tree → Tree → Type 0
@@ -43,7 +43,7 @@ least-le (leaf y) x e = omega (arith, eqb-true y x e)
 least-le (node l r) x e = ⊎-elim (λ h. omega (arith, least-le l x h)) (λ h. omega (arith, least-le r x h)) (has-cases l r x e)
 
 -- where 0 is a leaf it is the least
-pub least-zero : (t : Tree) → has t 0 ≡ true → least t ≡ 0
+least-zero : (t : Tree) → has t 0 ≡ true → least t ≡ 0
 least-zero t h = omega (arith, least-le t 0 h)
 
 -- the parts of a tree with distinct leaves have different names
@@ -74,9 +74,11 @@ fork x l r D e =
     let q = only-leaf x (node l r) D (λ y h. sym (eqb-true x y (e y ∙ h))) in
     let z : _≡_ {A = ℕ} 0 1 = cc in omega arith
 
+-- what one part of a tree with distinct leaves has, the other lacks
+pub lacks : (l r : Tree) → Distinct (node l r) → (x : ℕ) → has l x ≡ true → has r x ≡ false
+unfolding Distinct
+lacks l r D x p = by-test (has r x) (λ q. absurd (D .0 x p q)) (λ q. q)
+
 pub distinct-swap : (l r : Tree) → Distinct (node l r) → Distinct (node r l)
 unfolding Distinct
 distinct-swap l r D = (λ x p q. D .0 x q p, D .2, D .1)
-
-pub leaves-below : (n : ℕ) (t u : Tree) → Distinct u → ((x : ℕ) → has u x ≡ has t x) → LeavesBelow n t → LeavesBelow n u
-leaves-below n t u D e L = record { once = D; all = λ x. e x ∙ L .all x }

@@ -1,5 +1,5 @@
 -- A tree with some of its leaves taken out: a pair that loses one side becomes the other side.
--- Main definitions: beside, pruned, Restriction. Main results: pruned-has, pruned-clades, pruned-twice.
+-- Main definitions: beside, pruned, Restriction. Main results: pruned-clades, pruned-twice, pruned-all.
 use mathlib.Core.Path.{_≡_, refl, sym, ap, ap₂, _∙_}
 use mathlib.Core.Logic.{_⊎_, inl, inr, ⊎-elim, _↔_}
 use mathlib.Core.Bool.{Bool, true, false, _&&_, _||_, cond, false≢true}
@@ -53,15 +53,6 @@ module _ (keep : ℕ → Bool) where
       spread true true false = refl
       spread true false false = refl
       spread false b k = refl
-
-  -- the leaves that are kept
-  pub pruned-has : (t u : Tree) → pruned keep t ≡ some u → (x : ℕ) → has u x ≡ has t x && keep x
-  unfolding left-has
-  pruned-has t u e x = sym (ap (λ (o : Option Tree). left-has o x) e) ∙ pruned-left t x
-
-  pub pruned-none : (t : Tree) → pruned keep t ≡ none → (x : ℕ) → has t x && keep x ≡ false
-  unfolding left-has
-  pruned-none t e x = sym (pruned-left t x) ∙ ap (λ (o : Option Tree). left-has o x) e
 
 -- c is got "by keeping, in each clade" of the tree, only some leaves, and is not empty
 pub record Restriction (keep : ℕ → Bool) (t : Tree) (c : ℕ → Bool) : Type 0 where
@@ -158,7 +149,7 @@ again-beside keep (some t) none = sym (beside-none (pruned keep t))
 again-beside keep (some t) (some u) = refl
 
 -- to keep more first makes no difference
-pub pruned-again : (keep less : ℕ → Bool) → ((x : ℕ) → keep x ≡ false → less x ≡ false) → (t : Tree) → again less (pruned keep t) ≡ pruned less t
+pruned-again : (keep less : ℕ → Bool) → ((x : ℕ) → keep x ≡ false → less x ≡ false) → (t : Tree) → again less (pruned keep t) ≡ pruned less t
 unfolding pruned
 pruned-again keep less h (leaf x) = go (keep x) refl
   where

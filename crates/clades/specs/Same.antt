@@ -39,7 +39,7 @@ clade-cong c d (node l r) e (inl k) = inl (λ x. e x ∙ k x)
 clade-cong c d (node l r) e (inr (inl k)) = inr (inl (clade-cong c d l e k))
 clade-cong c d (node l r) e (inr (inr k)) = inr (inr (clade-cong c d r e k))
 
-pub clade-swap : (c : ℕ → Bool) (l r : Tree) → Clade (node l r) c → Clade (node r l) c
+clade-swap : (c : ℕ → Bool) (l r : Tree) → Clade (node l r) c → Clade (node r l) c
 unfolding Clade has
 clade-swap c l r (inl k) = inl (λ y. k y ∙ or-comm (has l y) (has r y))
 clade-swap c l r (inr (inl k)) = inr (inr k)

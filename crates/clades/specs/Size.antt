@@ -6,7 +6,7 @@ use mathlib.Core.Bool.{Bool, true, false, cond, _||_}
 use Prim.Native.Nat.{ℕ, _+_, _≤_, _<_}
 use native.Mathlib.Omega.{arith}
 use lib.Dec.{ltb}
-use borrow.Author.Tests.{eq-eqb, lt-ltb, ltb-true, ltb-false}
+use borrow.Author.Tests.{eq-eqb, lt-ltb, ltb-true}
 use Rattle.rules.specs.Tree.{Tree, leaf, node, has, size, Distinct, LeavesBelow}
 use Rattle.basics.specs.Bools.{both}
 use Rattle.basics.specs.Cases.{by-test}

@@ -1,5 +1,5 @@
 -- What comes back of what a call makes: one law for all calls. A refusal of the input as it is, 3 last, else done; what the buffer holds.
--- Main definitions: Short, Given. Main results: refused-exactly-when, done-exactly-when, unchanged, written, has-answer.
+-- Main definitions: Accepted, GivenFor. Main results: refused-exactly-when, done-exactly-when, unchanged, written, has-answer.
 use mathlib.Core.Bool.{Bool, true, false, cond}
 use mathlib.Core.List.{List, _++_}
 use mathlib.Core.Logic.{_⊎_, inl, inr, _↔_}

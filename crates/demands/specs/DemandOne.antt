@@ -14,10 +14,10 @@ use Rattle.rules.specs.Newick.{textOf, labelsOf}
 use Rattle.rules.specs.Record.{recordLength, leafCount}
 use Rattle.rules.specs.Answer.{done, refused, numberOf, reads, Made, refuses, answer, after}
 use Rattle.rules.specs.Calls.{check, toTable, fromTable, toText, pack, unpack, shuffleNew, shuffleVector, relabel}
+use Rattle.grammar.specs.Unique.{from-text-total, from-text-unique}
 use Rattle.laws.specs.Answers.{reads-unique}
 use Rattle.demands.specs.Promise.{Call, one, checks, vector-to-table, table-to-vector, vector-to-text, text-to-vector, packs, unpacks, shuffles, relabels, Lent, room, Makes, Holds, Promise}
 use Rattle.demands.specs.Given.{VectorRefused, RelabelRefused, TableRefused, TextRefused, RecordRefused}
-use Rattle.grammar.specs.Unique.{from-text-total, from-text-unique}
 use Rattle.demands.specs.Settled.{Settled, settled-check, settled-table, settled-text, settled-pack, settled-shuffle, settled-shuffled, settled-relabel}
 use Rattle.demands.specs.SettledTable.{settled-from-table}
 use Rattle.demands.specs.SettledRecord.{settled-unpack}
@@ -49,7 +49,7 @@ wanted (shuffles v) = length v
 wanted (one (relabels v p)) = length v
 
 -- nothing is wrong with a call's input
-abbrev pub Right : Call → Type 0
+abbrev Right : Call → Type 0
 Right c = Accepted (InputRefused c)
 
 -- when a call refuses with a number and a place: one of its input, and 3 last, "an output has too few elements", with "elements needed"

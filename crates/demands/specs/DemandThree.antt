@@ -18,14 +18,14 @@ use Rattle.rules.specs.Newick.{Text, labelsOf, labelFault}
 use Rattle.rules.specs.Record.{recordLength, leafCount, entriesOf, anySet, padding}
 use Rattle.rules.specs.Answer.{Made, made}
 use Rattle.rules.specs.Calls.{check, fromTable, FromText, too-long, breaks, reads-as, fromLabels, unpack}
-use Rattle.laws.specs.FromTable.{rows-accepted}
-use Rattle.laws.specs.OneToOne.{every-tree, same-clades-same-vector}
+use Rattle.table_laws.specs.Flat.{rowsOf-length}
+use Rattle.rows.specs.Forest.{rows-make-a-tree}
+use Rattle.rows.specs.Clades.{rows-clades}
 use Rattle.record_laws.specs.Inverse.{length-entries}
 use Rattle.grammar.specs.Complete.{text-unique}
 use Rattle.grammar.specs.Faults.{no-fault-leaves}
-use Rattle.rows.specs.Forest.{rows-make-a-tree}
-use Rattle.rows.specs.Clades.{rows-clades}
-use Rattle.table_laws.specs.Flat.{rowsOf-length}
+use Rattle.laws.specs.FromTable.{rows-accepted}
+use Rattle.laws.specs.OneToOne.{every-tree, same-clades-same-vector}
 use Rattle.demands.specs.Given.{CountWrong, CountRight, WithinBounds, First, Above, Unfit, labelNumbers, labelPlace, FirstRow, RowWrong, TableRefused, table-1, table-2, table-row, RecordRefused, record-short, record-1, record-2, record-4, record-10, TextRefused, text-1, text-9}
 use Rattle.demands.specs.FirstPlace.{Found, label-found, padding-found}
 use Rattle.demands.specs.FirstWrongRow.{row-found}

@@ -4,7 +4,7 @@
 use mathlib.Core.List.{List, [], _++_}
 use mathlib.Core.Logic.{_⊎_, inl, inr, _↔_}
 use mathlib.Core.Option.{none}
-use mathlib.Core.Path.{_≡_, refl, ap, _∙_, subst}
+use mathlib.Core.Path.{_≡_, ap, _∙_, subst}
 use Prim.Native.Nat.{ℕ, suc, _≤_}
 use native.Mathlib.Omega.{arith}
 use lib.ListN.{length, drop}
@@ -20,21 +20,21 @@ use Rattle.rules.specs.Answer.{done, reads, Made, made, answer, after}
 use Rattle.rules.specs.Calls.{fromVector, check, toTable, fromTable, toText, FromText, reads-as, pack, unpack}
 use Rattle.building.specs.Backwards.{merges-in-order}
 use Rattle.building.specs.Built.{merges-length}
-use Rattle.laws.specs.TreeOf.{tree-leaves, tree-form, vector-again}
-use Rattle.laws.specs.FromTable.{rows-accepted}
+use Rattle.table_laws.specs.Flat.{rowsOf-flat}
+use Rattle.table_laws.specs.Accepted.{table-accepted}
+use Rattle.table_laws.specs.Grown.{table-tree}
 use Rattle.record_laws.specs.Inverse.{unpack-record}
 use Rattle.grammar.specs.Written.{leaves-text}
 use Rattle.grammar.specs.Faults.{leaves-no-fault, leaves-count}
 use Rattle.grammar.specs.Length.{text-length, text-length-most}
-use Rattle.table_laws.specs.Flat.{rowsOf-flat}
-use Rattle.table_laws.specs.Accepted.{table-accepted}
-use Rattle.table_laws.specs.Grown.{table-tree}
+use Rattle.grammar.specs.Unique.{from-text-unique}
+use Rattle.laws.specs.TreeOf.{tree-leaves, tree-form, vector-again}
+use Rattle.laws.specs.FromTable.{rows-accepted}
 use Rattle.demands.specs.Promise.{one, vector-to-table, table-to-vector, vector-to-text, text-to-vector, packs, unpacks, Promise}
 use Rattle.demands.specs.Given.{CountRight, WithinBounds, VectorRefused}
 use Rattle.demands.specs.Settled.{vector-cases, vector-passes, vector-valid, settled-check, table-long}
 use Rattle.demands.specs.SettledText.{labels-fit}
 use Rattle.demands.specs.Answered.{made-accepted, written}
-use Rattle.grammar.specs.Unique.{from-text-unique}
 
 -- the vectors that the demand is about
 pub record Vector (v : List ℕ) : Type 0 where
@@ -51,15 +51,15 @@ accepted-exactly v = (λ e. go e (vector-cases v), λ W. vector-passes v (made [
     go e (inr h) = record { valid = vector-valid v (h .0) (h .1); few = h .0 .1 }
 
 -- what each notation of a vector is
-pub makes-table : (v : List ℕ) → Vector v → toTable v ≡ made (tableOf v)
+makes-table : (v : List ℕ) → Vector v → toTable v ≡ made (tableOf v)
 unfolding toTable
 makes-table v W = vector-passes v (made (tableOf v)) (W .valid .some-leaf, W .few) (W .valid .bounded)
 
-pub makes-text : (v : List ℕ) → Vector v → toText v ≡ made (textOf (treeOf v))
+makes-text : (v : List ℕ) → Vector v → toText v ≡ made (textOf (treeOf v))
 unfolding toText
 makes-text v W = vector-passes v (made (textOf (treeOf v))) (W .valid .some-leaf, W .few) (W .valid .bounded)
 
-pub makes-record : (v : List ℕ) → Vector v → pack v ≡ made (recordOf v)
+makes-record : (v : List ℕ) → Vector v → pack v ≡ made (recordOf v)
 unfolding pack
 makes-record v W = vector-passes v (made (recordOf v)) (W .valid .some-leaf, W .few) (W .valid .bounded)
 

@@ -11,8 +11,8 @@ use native.Mathlib.Nat.{add-zero, zero-add}
 use lib.Dec.{eqb, ltb}
 use lib.ListN.{length}
 use borrow.Author.Tests.{ltb-true, ltb-false, eqb-true, eqb-false, eq-eqb}
-use Rattle.basics.specs.Bools.{or-left, or-right}
 use Rattle.rules.specs.Table.{Row, Fault, rowFault, tableFault, childrenBelow, namedTwice}
+use Rattle.basics.specs.Bools.{or-left, or-right}
 use Rattle.demands.specs.Given.{rowAt, NamedBefore, WrongRow, parent-wrong, child-not-below, child-named, RowWrong, FirstRow}
 
 -- of a row one thing is wrong first

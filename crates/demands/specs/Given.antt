@@ -1,5 +1,5 @@
 -- When each refusal is given, in 01's words and order: one definition for each line of "What comes back", one table for each kind of input.
--- Main definitions: First, CountWrong, Above, Used, WrongRow, PaddingSet; VectorRefused, RelabelRefused, TableRefused, TextRefused, RecordRefused.
+-- Main definitions: First, CountWrong, Above, Unfit, WrongRow, PaddingSet; VectorRefused, RelabelRefused, TableRefused, TextRefused, RecordRefused.
 use mathlib.Core.List.{List, map}
 use mathlib.Core.Logic.{_≢_, _⊎_}
 use mathlib.Core.Path.{_≡_}

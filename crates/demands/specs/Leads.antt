@@ -8,8 +8,8 @@ use lib.ListN.{length, drop}
 use Rattle.rules.specs.declared.Answer.{Answer}
 use Rattle.rules.specs.Answer.{done, reads, Made, made, answer, after}
 use Rattle.rules.specs.Calls.{check, fromTable, FromText, unpack}
-use Rattle.demands.specs.Promise.{Call, one, checks, table-to-vector, text-to-vector, unpacks, Lent, Promise}
 use Rattle.grammar.specs.Unique.{from-text-unique}
+use Rattle.demands.specs.Promise.{Call, one, checks, table-to-vector, text-to-vector, unpacks, Lent, Promise}
 use Rattle.demands.specs.Answered.{done-made, written, enough}
 use Rattle.demands.specs.DemandTwo.{writes}
 
@@ -28,7 +28,7 @@ Leads (text s) w = FromText s (made w)
 Leads (packed s) w = unpack s ≡ made w
 
 -- the call that reads an input
-abbrev pub callOf : Input → Call
+abbrev callOf : Input → Call
 callOf (vector v) = checks v
 callOf (table n xs) = one (table-to-vector n xs)
 callOf (text s) = one (text-to-vector s)

@@ -23,13 +23,13 @@ use Rattle.rules.specs.Record.{recordOf, recordLength}
 use Rattle.rules.specs.Shuffle.{renamed, newOf, permutationFault}
 use Rattle.rules.specs.Answer.{numberOf, Made, made, refuses}
 use Rattle.rules.specs.Calls.{refuseAt, refuseCount, refuseLength, fromVector, check, toTable, toText, pack, shuffleNew, shuffleVector, relabel}
-use Rattle.building.specs.Built.{merges-length}
 use Rattle.basics.specs.Listed.{length-listed}
+use Rattle.building.specs.Built.{merges-length}
+use Rattle.table_laws.specs.Rows.{table-length}
+use Rattle.record_laws.specs.Inverse.{length-record}
 use Rattle.laws.specs.Guards.{no-leaf, many-leaves, some-leaves, wrong-length, right-length, refuse-at}
 use Rattle.laws.specs.FromVector.{above-bound, within-bounds}
 use Rattle.laws.specs.TreeOf.{tree-size}
-use Rattle.record_laws.specs.Inverse.{length-record}
-use Rattle.table_laws.specs.Rows.{table-length}
 use Rattle.demands.specs.Given.{First, CountWrong, CountRight, Above, WithinBounds, Unfit, VectorRefused, vector-1, vector-4, RelabelRefused, relabel-vector, relabel-2, relabel-11}
 use Rattle.demands.specs.FirstPlace.{Found, found-given, found-none, above-found, unfit-found}
 

@@ -15,8 +15,8 @@ use Rattle.rules.specs.Vector.{fault}
 use Rattle.rules.specs.Record.{recordLength, leafCount, entriesOf, padding, anySet}
 use Rattle.rules.specs.Answer.{numberOf, Made, made, refuses}
 use Rattle.rules.specs.Calls.{refuseIf, refuseAt, refuseCount, refuseLength, fromEntries, unpack}
-use Rattle.laws.specs.Guards.{wrong-length, right-length}
 use Rattle.record_laws.specs.Inverse.{length-entries}
+use Rattle.laws.specs.Guards.{wrong-length, right-length}
 use Rattle.demands.specs.Given.{First, CountWrong, CountRight, Above, WithinBounds, PaddingSet, RecordRefused, record-short, record-1, record-2, record-4, record-10}
 use Rattle.demands.specs.FirstPlace.{padding-found}
 use Rattle.demands.specs.Settled.{OfInput, Settled, count-cases, count-given, count-passes, equal-cases, above-cases, above-given, within-given}

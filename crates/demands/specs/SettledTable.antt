@@ -1,10 +1,10 @@
 -- What a table that is read makes is settled by the conditions of its refusals.
 -- Main result: settled-from-table.
-use mathlib.Core.List.{List, [], _∷_}
+use mathlib.Core.List.{List}
 use mathlib.Core.Logic.{_≢_, _⊎_, inl, inr}
 use mathlib.Core.Option.{none, some}
 use mathlib.Core.Path.{_≡_, refl, ap, ap₂, _∙_}
-use Prim.Native.Nat.{ℕ, zero, suc, _-_, _*_}
+use Prim.Native.Nat.{ℕ, _-_, _*_}
 use native.Mathlib.Omega.{arith}
 use lib.ListN.{length}
 use Rattle.rules.specs.declared.Kind.the-variants.{LeafCount, InputLength, Parent, Child, NamedBefore}
@@ -13,9 +13,9 @@ use Rattle.rules.specs.Table.{Row, rowsOf, tableFault, tableTree}
 use Rattle.rules.specs.Answer.{numberOf, Made, made, refuses}
 use Rattle.rules.specs.Calls.{refuseFault, refuseCount, refuseLength, fromTable}
 use Rattle.clades.specs.Size.{size-below}
-use Rattle.laws.specs.Guards.{wrong-length, right-length}
 use Rattle.table_laws.specs.Flat.{rowsOf-length}
 use Rattle.rows.specs.Forest.{rows-make-a-tree}
+use Rattle.laws.specs.Guards.{wrong-length, right-length}
 use Rattle.demands.specs.Given.{CountWrong, CountRight, FirstRow, RowWrong, parent-wrong, child-not-below, child-named, TableRefused, table-1, table-2, table-row}
 use Rattle.demands.specs.FirstWrongRow.{row-found, row-unique}
 use Rattle.demands.specs.Settled.{OfInput, Settled, count-cases, count-given, count-passes, equal-cases, vector-long}

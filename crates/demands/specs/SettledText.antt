@@ -13,11 +13,11 @@ use Rattle.rules.specs.Order.{vectorOf}
 use Rattle.rules.specs.Newick.{labelsOf, labelFault}
 use Rattle.rules.specs.Answer.{numberOf, Made, made, refuses}
 use Rattle.rules.specs.Calls.{refuseAt, FromText, too-long, breaks, reads-as, fromLabels}
-use Rattle.laws.specs.Guards.{refuse-at, pass-at}
 use Rattle.grammar.specs.Labels.{text-label-count}
+use Rattle.grammar.specs.Unique.{from-text-unique}
+use Rattle.laws.specs.Guards.{refuse-at, pass-at}
 use Rattle.demands.specs.Given.{First, CountWrong, CountRight, Unfit, labelNumbers, labelPlace, TextRefused, text-2, text-8, text-1, text-9}
 use Rattle.demands.specs.FirstPlace.{Found, found-given, label-found}
-use Rattle.grammar.specs.Unique.{from-text-unique}
 use Rattle.demands.specs.Settled.{OfInput, Settled, count-cases, count-given, count-passes, vector-long}
 
 -- what a text makes whose labels are looked at: "1, 9"

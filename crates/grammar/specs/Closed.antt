@@ -3,20 +3,21 @@
 use mathlib.Core.Path.{_≡_, refl, ap, ap₂, sym, subst, _∙_}
 use mathlib.Core.Bool.{Bool, true, false, cond, _||_, true≢false}
 use mathlib.Core.Logic.{_⊎_, inl, inr, ⊎-elim}
-use mathlib.Core.Option.{Option, none}
+use mathlib.Core.Option.{none}
 use mathlib.Core.List.{List, [], _∷_, _++_, map, append-assoc, append-nil}
-use Prim.Native.Nat.{ℕ, zero, suc, _+_, _-_, _*_, _≤_, _<_}
+use Prim.Native.Nat.{ℕ, suc, _+_, _-_, _≤_, _<_}
 use native.Mathlib.Omega.{arith}
 use lib.Dec.{eqb, ltb}
-use lib.ListN.{length, length-append, length-map}
+use lib.ListN.{length, length-map}
 use borrow.Author.Tests.{ne-eqb, eq-eqb, lt-ltb, le-ltb, ltb-true}
-use Rattle.rules.specs.Tree.{Tree, leaf, node, has, size, Distinct, LeavesBelow, Clusters}
+use Rattle.rules.specs.Tree.{Tree, leaf, node, has, Distinct, LeavesBelow, Clusters}
 use Rattle.rules.specs.Table.{Row, nodesOf, tableTree, rowFault, tableFault, childrenBelow, namedTwice}
-use Rattle.basics.specs.Bools.{or-no}
+use Rattle.basics.specs.Bools.{or-no, or-false}
+use Rattle.basics.specs.Cases.{by-test}
 use Rattle.clades.specs.Leaves.{has-left, has-right}
 use Rattle.clades.specs.Size.{size-below}
-use Rattle.grammar.specs.Pairs.{pairCount, childCode, pairsFrom, pairs-length, size-pairs}
 use Rattle.table_laws.specs.Tied.{tied, tied-length}
+use Rattle.grammar.specs.Pairs.{pairCount, childCode, pairsFrom, pairs-length, size-pairs}
 
 -- a child's number among n leaves: a label is a leaf, pair number k is node n + k
 unfoldable pub childNumber : ℕ → ℕ → ℕ
@@ -28,7 +29,7 @@ unfolding tied childNumber
 closedRows n P = tied n (map (λ c. childNumber n (c .0)) P) (map (λ c. childNumber n (c .1)) P)
 
 -- the rows of closed pairs, behind k rows
-unfoldable pub rowsFor : ℕ → ℕ → List (ℕ × ℕ) → List Row
+unfoldable rowsFor : ℕ → ℕ → List (ℕ × ℕ) → List Row
 unfolding tied childNumber
 rowsFor n k P = tied (n + k) (map (λ c. childNumber n (c .0)) P) (map (λ c. childNumber n (c .1)) P)
 
@@ -43,7 +44,7 @@ numberOf n k (leaf x) = x
 numberOf n k (node l r) = n + (k + pairCount l + pairCount r)
 
 -- the rows of a tree's pairs
-unfoldable pub treeRows : ℕ → ℕ → Tree → List Row
+unfoldable treeRows : ℕ → ℕ → Tree → List Row
 unfolding numberOf pairCount
 treeRows n k (leaf x) = []
 treeRows n k (node l r) =
@@ -85,7 +86,7 @@ no-rows : (n k : ℕ) → rowsFor n k [] ≡ []
 unfolding rowsFor tied
 no-rows n k = refl
 
-pub tree-rows : (n k : ℕ) (t : Tree) → Small n t → rowsFor n k (pairsFrom k t) ≡ treeRows n k t
+tree-rows : (n k : ℕ) (t : Tree) → Small n t → rowsFor n k (pairsFrom k t) ≡ treeRows n k t
 unfolding pairsFrom treeRows
 tree-rows n k (leaf x) h = no-rows n k
 tree-rows n k (node l r) h =
@@ -100,7 +101,7 @@ tree-rows n k (node l r) h =
     (ap (λ (j : ℕ). rowsFor n j (c ∷ [])) b ∙ last-row n (k + pairCount l + pairCount r) (childCode k l) (childCode (k + pairCount l) r)
     ∙ ap₂ (λ (x y : ℕ). (x, y, n + (k + pairCount l + pairCount r)) ∷ []) (code-number n k l (small-left h)) (code-number n (k + pairCount l) r (small-right h))))
 
-pub number-bound : (n k : ℕ) (t : Tree) → Small n t → numberOf n k t < n + k + pairCount t
+number-bound : (n k : ℕ) (t : Tree) → Small n t → numberOf n k t < n + k + pairCount t
 unfolding numberOf pairCount has
 number-bound n k (leaf x) h = let l : x < n = h .below x (eq-eqb x x refl) in omega arith
 number-bound n k (node l r) h = omega arith
@@ -156,7 +157,7 @@ tree-made n k (node l r) c h e =
     (join-made n k l r c (nodesOf (treeRows n k l) c) (nodesOf (treeRows n (k + pairCount l) r) (nodesOf (treeRows n k l) c)) (small-left h) (small-right h) a b)
 
 -- the nodes that are named as a child once a tree's rows are read
-unfoldable pub namedBy : ℕ → ℕ → Tree → (ℕ → Bool) → (ℕ → Bool)
+unfoldable namedBy : ℕ → ℕ → Tree → (ℕ → Bool) → (ℕ → Bool)
 unfolding numberOf pairCount
 namedBy n k (leaf x) named = named
 namedBy n k (node l r) named =
@@ -221,12 +222,8 @@ apart-named n k (leaf x) named y h a = refl
 apart-named n k (node l r) named y h a =
     let b : Both n k l r y = both n k l r y (small-left h) (small-right h) a in
     rw (ne-eqb y (numberOf n k l) (b .not-left), ne-eqb y (numberOf n (k + pairCount l) r) (b .not-right))
-    (or-falses (namedBy n (k + pairCount l) r (namedBy n k l named) y)
+    (or-false (namedBy n (k + pairCount l) r (namedBy n k l named) y || false) ∙ or-false (namedBy n (k + pairCount l) r (namedBy n k l named) y)
     ∙ apart-named n (k + pairCount l) r (namedBy n k l named) y (small-right h) (b .right) ∙ apart-named n k l named y (small-left h) (b .left))
-  where
-    or-falses : (a : Bool) → a || false || false ≡ a
-    or-falses true = refl
-    or-falses false = refl
 
 number-has : (n k : ℕ) (t : Tree) → numberOf n k t < n → has t (numberOf n k t) ≡ true
 unfolding numberOf has
@@ -243,28 +240,15 @@ number-free n k t named h f = ⊎-elim (λ p. f .leaves (numberOf n k t) (number
 
 module _ (n k : ℕ) (l r : Tree) (hl : Small n l) (hr : Small n r) (d : (x : ℕ) → has l x ≡ true → has r x ≡ true → ⊥) where
   not-right-leaf : (x : ℕ) → has l x ≡ true → has r x ≡ false
-  not-right-leaf x e = go (has r x) refl
-    where
-      go : (b : Bool) → has r x ≡ b → b ≡ false
-      go true q = absurd (d x e q)
-      go false q = refl
+  not-right-leaf x e = by-test (has r x) (λ q. absurd (d x e q)) (λ q. q)
 
   not-left-leaf : (x : ℕ) → has r x ≡ true → has l x ≡ false
-  not-left-leaf x e = go (has l x) refl
-    where
-      go : (b : Bool) → has l x ≡ b → b ≡ false
-      go true q = absurd (d x q e)
-      go false q = refl
+  not-left-leaf x e = by-test (has l x) (λ q. absurd (d x q e)) (λ q. q)
 
   left-apart : Apart n (k + pairCount l) r (numberOf n k l)
   left-apart =
       ⊎-elim (λ p. no-leaf p (not-right-leaf (numberOf n k l) (number-has n k l p)))
       (λ p. before (omega arith) (omega (arith, number-bound n k l hl))) (number-place n k l hl)
-
-  right-apart : Apart n k l (numberOf n (k + pairCount l) r)
-  right-apart =
-      ⊎-elim (λ p. no-leaf p (not-left-leaf (numberOf n (k + pairCount l) r) (number-has n (k + pairCount l) r p)))
-      (λ p. behind (omega arith)) (number-place n (k + pairCount l) r hr)
 
   two-numbers : numberOf n k l ≡ numberOf n (k + pairCount l) r → ⊥
   two-numbers e =

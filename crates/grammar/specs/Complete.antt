@@ -1,21 +1,20 @@
 -- The reader reads every node and every text, so that the grammar is unambiguous and the reader finds the place of refusal 8.
--- Main definitions: NoDigit. Main results: complete-node, complete-text, text-unique, node-unique, breaks-at, decided.
+-- Main definition: NoDigit. Main results: complete-node, complete-text, text-unique, breaks-at, decided.
 use mathlib.Core.Path.{_≡_, refl, ap, sym, subst, _∙_}
-use mathlib.Core.Bool.{Bool, true, false, cond, _&&_}
+use mathlib.Core.Bool.{Bool, true, false, cond}
 use mathlib.Core.Logic.{_⊎_, inl, inr}
-use mathlib.Core.List.{List, [], _∷_, _++_, append-assoc, append-nil, append-cancel-right}
-use Prim.Native.Nat.{ℕ, zero, suc, _+_, _-_, _*_, _≤_, _<_}
+use mathlib.Core.List.{List, [], _∷_, _++_, append-assoc, append-nil}
+use Prim.Native.Nat.{ℕ, zero, suc, _+_, _-_, _*_, _≤_}
 use native.Mathlib.Omega.{arith}
 use lib.Dec.{eqb, leb}
 use lib.ListN.{length, length-append, take}
 use lib.Seq.{take-append-seam, take-append-add, append-snoc}
-use native.Mathlib.Numerals.{add-one}
-use borrow.Author.Tests.{eqb-true, ne-eqb, leb-true}
+use borrow.Author.Tests.{ne-eqb, leb-true}
 use Rattle.rules.specs.Newick.{isDigit, allDigits, valueFrom, levels, Label, nought, number, Node, label, pair, pairText, Text, text, Begins, BreaksAt, broken as breaks, ended}
 use Rattle.rules.specs.Tree.{Tree, leaf, node}
 use Rattle.basics.specs.Bools.{and-both}
 use Rattle.grammar.specs.Reading.{Reading, read, broken, Reader, andThen, seq, sign, nothing, moreDigits, labelRead, pairRead, bracketOrLabel, nodeRead, textRead}
-use Rattle.grammar.specs.Sound.{Like, Reads, Breaks, Outcome, sound-text}
+use Rattle.grammar.specs.Sound.{Reads, Breaks, Outcome, sound-text}
 
 -- the bytes do not begin with a digit
 abbrev pub NoDigit : List ℕ → Type 0
@@ -60,7 +59,7 @@ unfolding nodeRead
 leaf-node zero l r h = complete-label l r h
 leaf-node (suc d) l r h = label-first l (pairRead (nodeRead d)) r ∙ complete-label l r h
 
-pub pair-append : (s s′ r : List ℕ) → pairText s s′ ++ r ≡ 40 ∷ (s ++ (44 ∷ (s′ ++ (41 ∷ r))))
+pair-append : (s s′ r : List ℕ) → pairText s s′ ++ r ≡ 40 ∷ (s ++ (44 ∷ (s′ ++ (41 ∷ r))))
 unfolding pairText
 pair-append s s′ r =
     ap (λ (x : List ℕ). 40 ∷ x) (append-assoc s (44 ∷ (s′ ++ (41 ∷ []))) r ∙ ap (λ (x : List ℕ). s ++ (44 ∷ x)) (append-assoc s′ (41 ∷ []) r))
@@ -89,14 +88,6 @@ read-rest e = cc
 -- the grammar is unambiguous
 pub text-unique : {s : List ℕ} {t u : Tree} → Text s t → Text s u → t ≡ u
 text-unique a b = read-tree (sym (complete-text a) ∙ complete-text b)
-
--- so is a node with what follows it
-pub node-unique : {d : ℕ} {s s′ : List ℕ} {t u : Tree} → Node d s t → Node d s′ u → (r r′ : List ℕ) → NoDigit r → NoDigit r′ → s ++ r ≡ s′ ++ r′
-    → (s ≡ s′) × (r ≡ r′) × (t ≡ u)
-node-unique {d} {s} {s′} {t} {u} a b r r′ h h′ e =
-    let o : read r t ≡ read r′ u = sym (complete-node a r h) ∙ ap (nodeRead d) e ∙ complete-node b r′ h′ in
-    let q : r ≡ r′ = read-rest o in
-    (append-cancel-right s s′ r (e ∙ ap (λ (x : List ℕ). s′ ++ x) (sym q)), q, read-tree o)
 
 -- where the reader breaks off, the grammar is broken
 pub breaks-at : (s r : List ℕ) → textRead s ≡ broken r → BreaksAt s (length s - length r)

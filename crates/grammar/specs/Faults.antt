@@ -1,18 +1,17 @@
 -- No label of a text is at fault exactly when the leaves of its tree are 0 to n-1, each once.
 -- Main definitions: usedBy. Main results: no-fault-leaves, leaves-no-fault.
-use mathlib.Core.Path.{_≡_, refl, ap, ap₂, sym, subst, _∙_}
+use mathlib.Core.Path.{_≡_, refl, ap, sym, _∙_}
 use mathlib.Core.Bool.{Bool, true, false, cond, _||_, not, true≢false}
-use mathlib.Core.Logic.{_⊎_, inl, inr, ⊎-elim}
+use mathlib.Core.Logic.{_⊎_, ⊎-elim}
 use mathlib.Core.List.{List, [], _∷_, _++_, append-nil, append-assoc, map}
 use mathlib.Core.Option.{Option, none, some}
-use Prim.Native.Nat.{ℕ, zero, suc, _+_, _<_}
-use native.Mathlib.Omega.{arith}
+use Prim.Native.Nat.{ℕ, _+_, _<_}
 use lib.Dec.{eqb, ltb}
 use lib.ListN.{length}
 use borrow.Author.Tests.{eq-eqb, eqb-true, lt-ltb, ltb-true}
 use Rattle.rules.specs.Building.{member}
 use Rattle.rules.specs.Newick.{Placed, Text, labelsOf, labelFault}
-use Rattle.rules.specs.Tree.{Tree, leaf, node, has, size, Distinct, LeavesBelow}
+use Rattle.rules.specs.Tree.{Tree, leaf, node, has, Distinct, LeavesBelow}
 use Rattle.basics.specs.Bools.{or-no}
 use Rattle.clades.specs.Leaves.{has-left, has-right, has-cases}
 use Rattle.clades.specs.Size.{every-leaf, size-below}
@@ -24,7 +23,7 @@ unfolding member
 fits n used [] = true
 fits n used (x ∷ xs) = cond (not (ltb x n) || member x used) false (fits n (x ∷ used) xs)
 
-abbrev pub isNone : Option ℕ → Bool
+abbrev isNone : Option ℕ → Bool
 isNone none = true
 isNone (some x) = false
 

@@ -1,10 +1,10 @@
 -- The labels of a node's bytes are the leaves of its tree from left to right, each at the place of its first byte.
 -- Main definitions: leavesOf. Main results: labels-behind, label-labels, pair-labels, node-labels, text-labels.
-use mathlib.Core.Path.{_≡_, refl, ap, ap₂, sym, subst, _∙_}
-use mathlib.Core.Bool.{Bool, true, false, cond, _&&_}
-use mathlib.Core.List.{List, [], _∷_, _++_, append-assoc, append-nil, map}
+use mathlib.Core.Path.{_≡_, refl, ap, ap₂, sym, _∙_}
+use mathlib.Core.Bool.{true, false, cond}
+use mathlib.Core.List.{List, [], _∷_, _++_, append-nil, map}
 use mathlib.Core.Option.{Option, none, some}
-use Prim.Native.Nat.{ℕ, zero, suc, _+_, _-_, _*_, _≤_, _<_}
+use Prim.Native.Nat.{ℕ, suc, _+_, _-_, _*_}
 use native.Mathlib.Omega.{arith}
 use lib.ListN.{length, length-append, length-map}
 use Rattle.rules.specs.Newick.{isDigit, allDigits, valueFrom, Label, nought, number, Node, label, pair, pairText, Text, text, Placed, withDigit, ending, labelsFrom, labelsOf}
@@ -16,7 +16,7 @@ unfoldable pub leavesOf : Tree → List ℕ
 leavesOf (leaf x) = x ∷ []
 leavesOf (node l r) = leavesOf l ++ leavesOf r
 
-pub leaves-size : (t : Tree) → length (leavesOf t) ≡ size t
+leaves-size : (t : Tree) → length (leavesOf t) ≡ size t
 unfolding leavesOf size
 leaves-size (leaf x) = refl
 leaves-size (node l r) = length-append (leavesOf l) (leavesOf r) ∙ ap₂ _+_ (leaves-size l) (leaves-size r)

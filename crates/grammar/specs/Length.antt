@@ -1,14 +1,14 @@
 -- The length of a tree's text hangs on its number of leaves alone.
 -- Main definitions: textLength. Main results: text-length, text-length-1024, text-length-mono, text-length-most.
-use mathlib.Core.Path.{_≡_, refl, ap, ap₂, sym, subst, _∙_}
+use mathlib.Core.Path.{_≡_, refl}
 use mathlib.Core.Bool.{Bool, true, false, cond}
 use mathlib.Core.List.{List, [], _∷_, _++_}
-use Prim.Native.Nat.{ℕ, zero, suc, _+_, _-_, _*_, _≤_, _<_}
+use Prim.Native.Nat.{ℕ, _+_, _-_, _*_, _≤_}
 use native.Mathlib.Omega.{arith}
 use lib.Dec.{ltb}
 use lib.ListN.{length, length-append}
-use Rattle.rules.specs.Newick.{digits, pairText, nodeText, textOf}
-use Rattle.rules.specs.Tree.{Tree, leaf, node, least, size, LeavesBelow}
+use Rattle.rules.specs.Newick.{pairText, nodeText, textOf}
+use Rattle.rules.specs.Tree.{Tree, leaf, node, least, LeavesBelow}
 use Rattle.basics.specs.Sums.{sumBelow, sum-mono}
 use Rattle.clades.specs.Size.{sumLeaves, all-leaves-sum, size-below}
 use Rattle.grammar.specs.Decimal.{digitCount, digits-length}
@@ -23,7 +23,7 @@ pub pair-length : (a b : List ℕ) → length (pairText a b) ≡ length a + leng
 unfolding pairText
 pair-length a b = omega (arith, length-append a (44 ∷ (b ++ (41 ∷ []))), length-append b (41 ∷ []))
 
-pub node-length : (t : Tree) → length (nodeText t) ≡ sumLeaves digitCount t + 3 * pairCount t
+node-length : (t : Tree) → length (nodeText t) ≡ sumLeaves digitCount t + 3 * pairCount t
 unfolding nodeText sumLeaves pairCount
 node-length (leaf x) = omega (arith, digits-length x)
 node-length (node l r) = go (ltb (least l) (least r)) (node-length l) (node-length r)

@@ -1,8 +1,8 @@
 -- The pairs of a tree in the order in which their brackets close, each as its two children.
--- Main definitions: pairCount, childCode, pairsFrom. Main results: pairs-length, code-bound.
-use mathlib.Core.Path.{_≡_, refl, ap, ap₂, sym, subst, _∙_}
+-- Main definitions: pairCount, childCode, pairsFrom. Main results: pairs-length, size-pairs.
+use mathlib.Core.Path.{_≡_, refl}
 use mathlib.Core.List.{List, [], _∷_, _++_}
-use Prim.Native.Nat.{ℕ, zero, suc, _+_, _-_, _*_, _≤_, _<_}
+use Prim.Native.Nat.{ℕ, _+_, _-_}
 use native.Mathlib.Omega.{arith}
 use lib.ListN.{length, length-append}
 use Rattle.rules.specs.Tree.{Tree, leaf, node, size}

@@ -4,11 +4,11 @@
 use mathlib.Core.Path.{_≡_, refl, ap, sym, subst, _∙_}
 use mathlib.Core.Bool.{Bool, true, false, cond}
 use mathlib.Core.Logic.{_⊎_, inl, inr}
-use mathlib.Core.List.{List, [], _∷_, _++_, append-assoc, append-nil}
+use mathlib.Core.List.{List, [], _∷_, _++_, append-assoc}
 use Prim.Native.Nat.{ℕ, zero, suc, _+_, _-_, _*_, _≤_}
 use native.Mathlib.Omega.{arith}
 use lib.Dec.{eqb}
-use lib.ListN.{length, length-append}
+use lib.ListN.{length}
 use borrow.Author.Tests.{eqb-true}
 use Rattle.rules.specs.Newick.{isDigit, allDigits, valueFrom, levels, Label, nought, number, Node, label, pair, pairText, Text, text}
 use Rattle.rules.specs.Tree.{Tree, leaf, node}
@@ -61,7 +61,7 @@ wider f G H w h s = go (f s) (h s)
         record { bytes = a .bytes; rest = a .rest; tree = a .tree; split = a .split; good = w (a .bytes ++ a .rest) (a .tree) (a .good); alike = a .alike }
 
 -- bytes of one grammar, and behind them bytes of another, which may hang on the tree read
-abbrev pub Seq : Grammar → (Tree → Grammar) → Grammar
+abbrev Seq : Grammar → (Tree → Grammar) → Grammar
 Seq G H b v = (b₁ : List ℕ) × (b₂ : List ℕ) × (t : Tree) × (b ≡ b₁ ++ b₂) × G b₁ t × H t b₂ v
 
 module _ (f : Reader) (g : Tree → Reader) (G : Grammar) (H : Tree → Grammar) where
@@ -104,7 +104,7 @@ module _ (f : Reader) (g : Tree → Reader) (G : Grammar) (H : Tree → Grammar)
           }
 
 -- the one sign c, behind a tree
-abbrev pub Sign : ℕ → Tree → Grammar
+abbrev Sign : ℕ → Tree → Grammar
 Sign c t b v = (b ≡ c ∷ []) × (v ≡ t)
 
 sound-sign : (c : ℕ) (t : Tree) → Sound (sign c t) (Sign c t)
@@ -237,7 +237,7 @@ sound-label (c ∷ s) = go (isDigit c) refl (eqb c 48) refl (moreDigits 3 (c - 4
     go false e z q o a = record { bytes = []; rest = 48 ∷ []; tree = leaf 0; split = refl; good = zero-leaf; alike = other e }
 
 -- "(" and bytes of a grammar, or a label
-abbrev pub Bracketed : Grammar → Grammar
+abbrev Bracketed : Grammar → Grammar
 Bracketed G b t = ((b′ : List ℕ) × (b ≡ 40 ∷ b′) × G b′ t) ⊎ Leaf b t
 
 sound-bracket : (f : Reader) (G : Grammar) → Sound f G → Sound (bracketOrLabel f) (Bracketed G)

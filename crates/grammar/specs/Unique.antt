@@ -1,14 +1,14 @@
 -- A list of bytes is a text or breaks the grammar, at one place, and not both: what a text makes is one thing.
 -- Main results: breaks-unique, text-no-break, from-text-total, from-text-unique.
-use mathlib.Core.Path.{_≡_, refl, ap, ap₂, sym, subst, _∙_}
+use mathlib.Core.Path.{_≡_, refl, ap, sym, subst, _∙_}
 use mathlib.Core.Bool.{Bool, true, false}
 use mathlib.Core.Logic.{_⊎_, inl, inr}
-use mathlib.Core.List.{List, [], _∷_, _++_, append-assoc, append-nil}
-use Prim.Native.Nat.{ℕ, suc, _+_, _-_, _≤_, _<_}
+use mathlib.Core.List.{List, [], _++_, append-assoc, append-nil}
+use Prim.Native.Nat.{ℕ, suc, _+_, _-_, _≤_}
 use native.Mathlib.Omega.{arith}
 use lib.Dec.{ltb}
 use lib.ListN.{length, take, drop, take-append-drop}
-use lib.Seq.{take-take, take-all}
+use lib.Seq.{take-take}
 use borrow.Author.Tests.{ltb-true, ltb-false}
 use Rattle.rules.specs.Newick.{Text, Begins, BreaksAt, broken, ended}
 use Rattle.rules.specs.Tree.{Tree}

@@ -1,14 +1,14 @@
 -- The text of a tree is a text, which reads as the tree with each pair turned so that its smaller least leaf stands first.
 -- Main definitions: plainText, nesting. Main results: written-plain, plain-node, written-text, leaves-text.
-use mathlib.Core.Path.{_≡_, refl, ap, ap₂, sym, subst, _∙_}
-use mathlib.Core.Bool.{Bool, true, false, cond, _||_}
-use mathlib.Core.List.{List, [], _∷_, _++_}
-use Prim.Native.Nat.{ℕ, zero, suc, _+_, _≤_, _<_, min, max}
+use mathlib.Core.Path.{_≡_, refl, ap₂, sym, _∙_}
+use mathlib.Core.Bool.{Bool, true, false, cond}
+use mathlib.Core.List.{List}
+use Prim.Native.Nat.{ℕ, zero, suc, _+_, _≤_, _<_, max}
 use native.Mathlib.Omega.{arith}
 use lib.Dec.{ltb}
 use borrow.Author.Tests.{ltb-true, eq-eqb}
 use Rattle.rules.specs.Newick.{digits, pairText, nodeText, textOf, levels, Node, label, pair, Text, text}
-use Rattle.rules.specs.Tree.{Tree, leaf, node, has, least, size, LeavesBelow}
+use Rattle.rules.specs.Tree.{Tree, leaf, node, has, least, LeavesBelow}
 use Rattle.clades.specs.Leaves.{has-left, has-right}
 use Rattle.clades.specs.Size.{size-below}
 use Rattle.clades.specs.Form.{join, form, join-cases, form-least, form-has}
@@ -26,7 +26,7 @@ unfoldable pub nesting : Tree → ℕ
 nesting (leaf x) = 0
 nesting (node l r) = max (nesting l) (nesting r) + 1
 
-pub form-nesting : (t : Tree) → nesting (form t) ≡ nesting t
+form-nesting : (t : Tree) → nesting (form t) ≡ nesting t
 unfolding form nesting
 form-nesting (leaf x) = refl
 form-nesting (node l r) = go (form-nesting l) (form-nesting r)

@@ -12,19 +12,19 @@ use Rattle.rules.specs.Building.{Merge}
 use Rattle.rules.specs.Tree.{Tree, leaf, node, has, least, size, Distinct}
 use Rattle.rules.specs.Order.{ready, isMerge, collapse}
 use Rattle.basics.specs.Bools.{or-left, or-no, or-comm, and-left, and-right}
-use Rattle.clades.specs.Leaves.{has-left, distinct-swap}
+use Rattle.clades.specs.Leaves.{has-left, distinct-swap, lacks}
 use Rattle.clades.specs.Form.{join, form, form-has, form-least, form-size, form-distinct, form-swap}
 use Rattle.growing.specs.Grown.{graft, has-graft, graft-other, least-graft, size-graft, join-graft}
 use Rattle.growing.specs.Ready.{Ready, Sides, ready-sides, ready-has, ready-rising}
 
-pub is-merge : (m : Merge) (o : Option Merge) → isMerge m o ≡ true → o ≡ some m
+is-merge : (m : Merge) (o : Option Merge) → isMerge m o ≡ true → o ≡ some m
 unfolding isMerge
 is-merge m none e = absurd (false≢true e)
 is-merge m (some p) e =
     ap some (ap₂ (λ (a b : ℕ). (a, b)) (sym (eqb-true (m .0) (p .0) (and-left (eqb (m .0) (p .0)) (eqb (m .1) (p .1)) e)))
     (sym (eqb-true (m .1) (p .1) (and-right (eqb (m .0) (p .0)) (eqb (m .1) (p .1)) e))))
 
-pub is-own : (m : Merge) → isMerge m (some m) ≡ true
+is-own : (m : Merge) → isMerge m (some m) ≡ true
 unfolding isMerge
 is-own m = rw (eq-eqb (m .0) (m .0) refl) (eq-eqb (m .1) (m .1) refl)
 
@@ -47,7 +47,7 @@ unfolding collapse
 collapse-here m l r e = rw (e, is-own m)
 
 -- a tree without the smaller name is as it was
-pub collapse-other : (m : Merge) (t : Tree) → has t (m .0) ≡ false → collapse m t ≡ t
+collapse-other : (m : Merge) (t : Tree) → has t (m .0) ≡ false → collapse m t ≡ t
 unfolding has
 collapse-other m (leaf x) e = unfold collapse in refl
 collapse-other m (node l r) e =
@@ -69,7 +69,7 @@ open-right m (leaf x) (leaf y) h = absurd h
 open-right m (leaf x) (node a b) h = refl
 open-right m (node a b) r h = refl
 
-pub collapse-inner : (m : Merge) (l r : Tree) → ready l r ≡ none → collapse m (node l r) ≡ node (collapse m l) (collapse m r)
+collapse-inner : (m : Merge) (l r : Tree) → ready l r ≡ none → collapse m (node l r) ≡ node (collapse m l) (collapse m r)
 unfolding collapse isMerge
 collapse-inner m l r e = rw e
 
@@ -84,7 +84,7 @@ pub collapsed-has : (m : Merge) (t u : Tree) → Collapsed m t u → (x : ℕ) �
 collapsed-has m t u C x =
     sym (form-has t x) ∙ ap (λ (w : Tree). has w x) (C .form-back) ∙ has-graft m (form u) x ∙ rw (form-has u x, form-has u (m .0), C .smaller)
 
-pub collapsed-inside : (m : Merge) (t u : Tree) → Collapsed m t u → (x : ℕ) → has u x ≡ true → has t x ≡ true
+collapsed-inside : (m : Merge) (t u : Tree) → Collapsed m t u → (x : ℕ) → has u x ≡ true → has t x ≡ true
 collapsed-inside m t u C x e = collapsed-has m t u C x ∙ or-left (has u x) (eqb (m .1) x) e
 
 pub collapsed-least : (m : Merge) (t u : Tree) → m .0 < m .1 → Collapsed m t u → least u ≡ least t
@@ -102,15 +102,6 @@ collapsed-here m l r h s =
     go : ((l ≡ leaf (m .0)) × (r ≡ leaf (m .1))) ⊎ ((l ≡ leaf (m .1)) × (r ≡ leaf (m .0))) → join (form l) (form r) ≡ node (leaf (m .0)) (leaf (m .1))
     go (inl k) = rw (k .0, k .1, lt-ltb (m .0) (m .1) h)
     go (inr k) = rw (k .0, k .1, le-ltb (m .1) (m .0) (omega arith))
-
--- what one part of a tree with distinct leaves has, the other lacks
-pub lacks : (l r : Tree) → Distinct (node l r) → (x : ℕ) → has l x ≡ true → has r x ≡ false
-unfolding Distinct
-lacks l r D x p = go (has r x) refl
-  where
-    go : (b : Bool) → has r x ≡ b → b ≡ false
-    go true q = absurd (D .0 x p q)
-    go false q = refl
 
 collapsed-left : (m : Merge) (l r u : Tree) → Distinct (node l r) → m .0 < m .1
     → (has l (m .0) ≡ true) × (has l (m .1) ≡ true) → Collapsed m l u → Collapsed m (node l r) (node u r)
@@ -152,7 +143,7 @@ unfoldable pub Clear : Merge → Merge → Type 0
 Clear m p = (p .0 ≢ m .0) × (p .1 ≢ m .0)
 
 -- a leaf that is not the merged cluster was there before
-pub leaf-before : (m : Merge) (t : Tree) (x : ℕ) → collapse m t ≡ leaf x → x ≢ m .0 → t ≡ leaf x
+leaf-before : (m : Merge) (t : Tree) (x : ℕ) → collapse m t ≡ leaf x → x ≢ m .0 → t ≡ leaf x
 leaf-before m (leaf y) x e ne = (unfold collapse in e)
 leaf-before m (node l r) x e ne =
     ⊎-elim (λ h. absurd (ne (leaf-injective (sym e ∙ h .1)))) (λ h. absurd (leaf-not-node (sym e ∙ h))) (collapse-cases m l r)

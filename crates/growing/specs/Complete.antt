@@ -1,26 +1,22 @@
 -- Fact 1 of 01 over the clusters that the merges build: after each number of merges, of the pairs of the whole tree whose two clusters
 -- are there, the one whose larger name is greatest is merged next.
--- Main definition: Complete. Main results: next-complete, next-complete-pairs.
+-- Main definition: Complete. Main result: next-complete.
 use mathlib.Core.Path.{_≡_, refl, sym, ap, _∙_}
 use mathlib.Core.Bool.{true}
 use mathlib.Core.List.{List, _∷_, _++_}
 use Prim.Native.Nat.{ℕ, suc, _<_, min, max}
 use native.Mathlib.Omega.{arith}
-use lib.Dec.{eqb}
 use lib.ListN.{length, take, drop, getD, take-append-drop}
 use lib.Seq.{drop-cons}
 use borrow.Author.Tests.{eq-eqb}
-use Rattle.rules.specs.Vector.{entry}
 use Rattle.rules.specs.Building.{Merge}
 use Rattle.rules.specs.Tree.{leaf, node, Clusters, grown, has}
-use Rattle.basics.specs.Bools.{or-left, or-right}
-use Rattle.merging.specs.Insertion.{pairs, Bounded}
-use Rattle.merging.specs.Once.{times}
-use Rattle.merging.specs.Greedy.{Greedy, greedy}
-use Rattle.merging.specs.Named.{named, Good, Rising, good, rising}
 use Rattle.clades.specs.Leaves.{Inside}
+use Rattle.merging.specs.Once.{times}
+use Rattle.merging.specs.Greedy.{Greedy}
+use Rattle.merging.specs.Named.{Good, Rising}
+use Rattle.merging.specs.Names.{smaller-named, larger-named, rest-there, there-rest, good-rest, rising-rest, greedy-rest}
 use Rattle.growing.specs.Grown.{filled, grown-filled, grown-graft, grown-append, grown-keeps, has-grown, distinct-grown}
-use Rattle.merging.specs.Names.{rest-there, there-rest, good-rest, rising-rest, greedy-rest}
 use Rattle.growing.specs.Ready.{Ready, Greatest}
 use Rattle.growing.specs.Fact1.{after, fact-1-grown}
 use Rattle.growing.specs.Clusters.{clusters-ready}
@@ -56,18 +52,12 @@ module _ (Q : List Merge) (m : Merge) (R : List Merge) (g : Rising (Q ++ (m ∷ 
       let k = good-rest Q (m ∷ R) G in
       record {
         pair = rw whole (part-filled (grown Q leaf) (node (leaf (m .0)) (leaf (m .1))) (grown (m ∷ R) leaf 0) (own k));
-        smaller = rest-there Q (m ∷ R) G (m .0) (low k);
-        larger = rest-there Q (m ∷ R) G (m .1) high;
+        smaller = rest-there Q (m ∷ R) G (m .0) (smaller-named m R k);
+        larger = rest-there Q (m ∷ R) G (m .1) (larger-named m R);
       }
     where
       own : Good (m ∷ R) → Part (node (leaf (m .0)) (leaf (m .1))) (grown (m ∷ R) leaf 0)
       own k = rw (grown-graft m R 0) (part-own m (grown R leaf 0) (unfold Good in has-grown R (k .2) (m .0) ∙ k .0))
-
-      low : Good (m ∷ R) → named (m ∷ R) (m .0) ≡ true
-      low k = unfold Good named in or-left (named R (m .0)) (eqb (m .1) (m .0)) (k .0)
-
-      high : named (m ∷ R) (m .1) ≡ true
-      high = unfold named in or-right (named R (m .1)) (eqb (m .1) (m .1)) (eq-eqb (m .1) (m .1) refl)
 
   next-after : Greatest (Complete Q (Q ++ (m ∷ R))) m
   next-after = record { is-one = own-complete; above = λ p K. omega (arith, top .above (min (p .0) (p .1), max (p .0) (p .1)) (complete-ready p K)) }
@@ -80,9 +70,3 @@ pub next-complete : (P : List Merge) → Rising P → Good P → Greedy P → (k
 next-complete P g G H k h =
     let e : take k P ++ (getD P k (0, 0) ∷ drop (suc k) P) ≡ P = ap (λ (R : List Merge). take k P ++ R) (sym (drop-cons P k (0, 0) h)) ∙ take-append-drop k P in
     rw e at (next-after (take k P) (getD P k (0, 0)) (drop (suc k) P) (rw e g) (rw e G) (rw e H))
-
--- the same of a vector's merges
-pub next-complete-pairs : (v : List ℕ) → Bounded (entry v) (length v)
-    → (k : ℕ) → k < length (pairs v) → Greatest (Complete (take k (pairs v)) (pairs v)) (getD (pairs v) k (0, 0))
-unfolding pairs
-next-complete-pairs v b = next-complete (pairs v) (rising (entry v) (length v) b) (good (entry v) (length v) b) (greedy (entry v) (length v) b)

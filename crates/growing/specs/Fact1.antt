@@ -1,6 +1,6 @@
 -- Fact 1 of 01: "The order of merges depends on the tree alone: of the pairs whose two clusters are complete, the one whose larger
 -- name is greatest comes first."
--- Main definition: after. Main results: fact-1 (of a tree's order), fact-1-grown and fact-1-pairs (of merges), ready-unique, pairs-order, pairs-below.
+-- Main definition: after. Main results: fact-1 (of a tree's order), fact-1-grown (of merges), ready-unique, pairs-order, pairs-below.
 use mathlib.Core.Path.{_≡_, sym, _∙_}
 use mathlib.Core.Logic.{inl, inr}
 use mathlib.Core.List.{List, [], _∷_}
@@ -15,10 +15,10 @@ use Rattle.rules.specs.Order.{best, collapse, order}
 use Rattle.merging.specs.Insertion.{pairs, Bounded}
 use Rattle.merging.specs.Greedy.{Greedy, greedy}
 use Rattle.merging.specs.Named.{Good, Rising, good, rising}
+use Rattle.merging.specs.Names.{pairs-named}
 use Rattle.growing.specs.Grown.{distinct-grown, grown-below}
 use Rattle.growing.specs.Ready.{Ready, Greatest, best-greatest, ready-has}
 use Rattle.growing.specs.Collapse.{open-left, open-right}
-use Rattle.merging.specs.Names.{pairs-named}
 use Rattle.growing.specs.OrderOf.{Step, order-induct, order-of-grown}
 
 -- the tree after some merges: a leaf is a complete cluster that is not merged yet
@@ -41,7 +41,7 @@ ready-unique p q (node l r) D (inr (inr h)) (inr (inl k)) e = absurd (D .0 (p .1
 ready-unique p q (node l r) D (inr (inr h)) (inr (inr k)) e = ready-unique p q r (D .2) h k e
 
 -- merge number k of a tree is the best pair of the tree after the k merges before it
-pub order-best : (t : Tree) → Distinct t → (k : ℕ) → k < length (order t) → best (after (take k (order t)) t) ≡ some (getD (order t) k (0, 0))
+order-best : (t : Tree) → Distinct t → (k : ℕ) → k < length (order t) → best (after (take k (order t)) t) ≡ some (getD (order t) k (0, 0))
 order-best = order-induct (λ t P. (k : ℕ) → k < length P → best (after (take k P) t) ≡ some (getD P k (0, 0))) (λ x k h. absurd (omega arith)) more
   where
     more : (m : Merge) (t : Tree) (P : List Merge) → Step m t → ((k : ℕ) → k < length P → best (after (take k P) (collapse m t)) ≡ some (getD P k (0, 0)))
@@ -63,11 +63,6 @@ fact-1-grown P g G H k h =
 pub pairs-order : (v : List ℕ) → Bounded (entry v) (length v) → order (grown (pairs v) leaf 0) ≡ pairs v
 unfolding pairs
 pairs-order v b = order-of-grown (pairs v) (rising (entry v) (length v) b) (good (entry v) (length v) b) (greedy (entry v) (length v) b)
-
-pub fact-1-pairs : (v : List ℕ) → Bounded (entry v) (length v)
-    → (k : ℕ) → k < length (pairs v) → Greatest (λ p. Ready p (after (take k (pairs v)) (grown (pairs v) leaf 0))) (getD (pairs v) k (0, 0))
-unfolding pairs
-fact-1-pairs v b = fact-1-grown (pairs v) (rising (entry v) (length v) b) (good (entry v) (length v) b) (greedy (entry v) (length v) b)
 
 -- the tree of a vector's merges has its leaves
 pub pairs-below : (v : List ℕ) → Bounded (entry v) (length v) → 1 ≤ length v → LeavesBelow (length v) (grown (pairs v) leaf 0)

@@ -16,7 +16,7 @@ use Rattle.growing.specs.Grown.{graft}
 use Rattle.growing.specs.Ready.{Ready, Sides, ready-sides}
 use Rattle.growing.specs.Collapse.{Cases, collapse-cases, collapse-here, Clear}
 
-pub pair-ready : (m : Merge) → m .0 < m .1 → ready (leaf (m .0)) (leaf (m .1)) ≡ some m
+pair-ready : (m : Merge) → m .0 < m .1 → ready (leaf (m .0)) (leaf (m .1)) ≡ some m
 unfolding ready
 pair-ready m h =
     let a : min (m .0) (m .1) ≡ m .0 = omega arith in

@@ -13,9 +13,9 @@ use borrow.Author.Tests.{eqb-true, lt-ltb}
 use Rattle.rules.specs.Building.{Merge}
 use Rattle.rules.specs.Tree.{Tree, leaf, node, Clusters, joined, grown, has, least, size, Distinct, LeavesBelow}
 use Rattle.basics.specs.Bools.{or-cases, or-no, or-false, and-left, and-right}
-use Rattle.merging.specs.Named.{named, Good, Rising}
-use Rattle.clades.specs.Leaves.{has-left}
+use Rattle.clades.specs.Leaves.{has-left, lacks}
 use Rattle.clades.specs.Form.{join, form}
+use Rattle.merging.specs.Named.{named, Good, Rising}
 
 -- a tree of clusters: each leaf is the cluster of its name
 unfoldable pub filled : Clusters → Tree → Tree
@@ -27,23 +27,18 @@ unfoldable pub graft : Merge → Tree → Tree
 unfolding filled joined
 graft m t = filled (joined m leaf) t
 
-pub filled-cong : (c d : Clusters) → ((x : ℕ) → c x ≡ d x) → (t : Tree) → filled c t ≡ filled d t
+filled-cong : (c d : Clusters) → ((x : ℕ) → c x ≡ d x) → (t : Tree) → filled c t ≡ filled d t
 unfolding filled
 filled-cong c d e (leaf x) = e x
 filled-cong c d e (node l r) = ap₂ node (filled-cong c d e l) (filled-cong c d e r)
 
-pub filled-leaf : (t : Tree) → filled leaf t ≡ t
-unfolding filled
-filled-leaf (leaf x) = refl
-filled-leaf (node l r) = ap₂ node (filled-leaf l) (filled-leaf r)
-
-pub filled-filled : (c d : Clusters) (t : Tree) → filled c (filled d t) ≡ filled (λ x. filled c (d x)) t
+filled-filled : (c d : Clusters) (t : Tree) → filled c (filled d t) ≡ filled (λ x. filled c (d x)) t
 unfolding filled
 filled-filled c d (leaf x) = refl
 filled-filled c d (node l r) = ap₂ node (filled-filled c d l) (filled-filled c d r)
 
 -- to fill in a graft is to fill in the merged clusters
-pub filled-graft : (m : Merge) (c : Clusters) (t : Tree) → filled c (graft m t) ≡ filled (joined m c) t
+filled-graft : (m : Merge) (c : Clusters) (t : Tree) → filled c (graft m t) ≡ filled (joined m c) t
 unfolding graft filled joined
 filled-graft m c t = filled-filled c (joined m leaf) t ∙ filled-cong (λ x. filled c (joined m leaf x)) (joined m c) (λ x. go x (eqb x (m .0))) t
   where
@@ -123,7 +118,7 @@ join-graft m h l r = rw (least-graft m h l, least-graft m h r) (go (ltb (least l
     go true = refl
     go false = refl
 
-pub form-graft : (m : Merge) → m .0 < m .1 → (t : Tree) → form (graft m t) ≡ graft m (form t)
+form-graft : (m : Merge) → m .0 < m .1 → (t : Tree) → form (graft m t) ≡ graft m (form t)
 unfolding form graft
 form-graft m h (leaf x) = go (eqb x (m .0))
   where
@@ -139,12 +134,12 @@ form-grown [] g = unfold form grown in refl
 form-grown (m ∷ P) g = rw (grown-graft m P 0, form-graft m (g .0) (grown P leaf 0), form-grown P (g .1))
 
 -- where a leaf of a graft comes from
-pub in-graft : (m : Merge) (t : Tree) (x : ℕ) → has (graft m t) x ≡ true → (has t x ≡ true) ⊎ ((has t (m .0) ≡ true) × (m .1 ≡ x))
+in-graft : (m : Merge) (t : Tree) (x : ℕ) → has (graft m t) x ≡ true → (has t x ≡ true) ⊎ ((has t (m .0) ≡ true) × (m .1 ≡ x))
 in-graft m t x e =
     ⊎-elim (λ k. inl k) (λ k. inr (and-left (has t (m .0)) (eqb (m .1) x) k, eqb-true (m .1) x (and-right (has t (m .0)) (eqb (m .1) x) k)))
     (or-cases (has t x) (has t (m .0) && eqb (m .1) x) (sym (has-graft m t x) ∙ e))
 
-pub distinct-graft : (m : Merge) (t : Tree) → m .0 ≢ m .1 → has t (m .1) ≡ false → Distinct t → Distinct (graft m t)
+distinct-graft : (m : Merge) (t : Tree) → m .0 ≢ m .1 → has t (m .1) ≡ false → Distinct t → Distinct (graft m t)
 unfolding Distinct graft has
 distinct-graft m (leaf x) ne h D = go (eqb x (m .0))
   where
@@ -174,13 +169,9 @@ unfolding graft size has Distinct
 size-graft m (leaf x) D h = rw h
 size-graft m (node l r) D h = go (has l (m .0)) refl (size-graft m l (D .1)) (size-graft m r (D .2))
   where
-    absent : (b : Bool) → has r (m .0) ≡ b → has l (m .0) ≡ true → has r (m .0) ≡ false
-    absent true q p = absurd (D .0 (m .0) p q)
-    absent false q p = q
-
     go : (b : Bool) → has l (m .0) ≡ b → (has l (m .0) ≡ true → size (graft m l) ≡ suc (size l)) → (has r (m .0) ≡ true → size (graft m r) ≡ suc (size r))
         → size (graft m l) + size (graft m r) ≡ suc (size l + size r)
-    go true q f g = rw (graft-other m r (absent (has r (m .0)) refl q)) (omega (arith, f q))
+    go true q f g = rw (graft-other m r (lacks l r D (m .0) q)) (omega (arith, f q))
     go false q f g = rw (graft-other m l q) (omega (arith, g (rw q at h)))
 
 pub size-grown : (P : List Merge) → Rising P → Good P → size (grown P leaf 0) ≡ suc (length P)

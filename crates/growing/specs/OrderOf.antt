@@ -1,9 +1,9 @@
 -- The order of a tree's merges: of the ready pairs the one with the greatest larger name comes first.
 -- Lists of merges in that order and trees up to turning are the same thing.
 -- Main definition: Step. Main results: order-of-grown, order-induct, order-rising, order-good, order-greedy, order-named, order-under,
--- order-length, order-count, order-once, grown-order, order-turned, same-order, order-clades.
+-- order-once, grown-order, order-turned, same-order.
 use mathlib.Core.Path.{_≡_, refl, sym, ap, _∙_}
-use mathlib.Core.Logic.{_≢_, _⊎_, inl, inr, ⊎-elim, _↔_}
+use mathlib.Core.Logic.{_≢_, _⊎_, inl, inr, ⊎-elim}
 use mathlib.Core.Bool.{Bool, true, false, not, _||_, true≢false}
 use mathlib.Core.List.{List, [], _∷_}
 use mathlib.Core.Option.{some}
@@ -16,17 +16,17 @@ use Rattle.rules.specs.Building.{Merge}
 use Rattle.rules.specs.Tree.{Tree, leaf, grown, has, least, size, Distinct, LeavesBelow, SameClades}
 use Rattle.rules.specs.Order.{best, collapse, ordered, order}
 use Rattle.basics.specs.Bools.{or-no, and-left, and-right}
+use Rattle.clades.specs.Leaves.{below-least}
+use Rattle.clades.specs.Size.{size-some}
+use Rattle.clades.specs.Form.{form, clades-up-to-turning}
 use Rattle.merging.specs.Once.{times}
 use Rattle.merging.specs.Greedy.{touch, free, Ahead, Greedy, Under}
 use Rattle.merging.specs.Named.{named, Good, Rising}
-use Rattle.clades.specs.Leaves.{below-least}
-use Rattle.clades.specs.Size.{size-some, size-below}
-use Rattle.clades.specs.Form.{form, clades-up-to-turning}
+use Rattle.merging.specs.Names.{named-times, under-named}
 use Rattle.growing.specs.Grown.{graft, grown-graft, has-grown, size-grown}
 use Rattle.growing.specs.Ready.{Ready, Greatest, best-greatest, best-is, best-some, ready-has, ready-rising}
 use Rattle.growing.specs.Collapse.{Collapsed, collapsed, collapsed-has, collapsed-least, collapsed-size, Clear, ready-before}
 use Rattle.growing.specs.Graft.{collapse-graft, ready-graft, ready-own}
-use Rattle.merging.specs.Names.{named-times, under-named}
 
 -- the order of the tree that merges build
 
@@ -105,15 +105,12 @@ module _ (Q : Tree → List Merge → Type 0) (start : (x : ℕ) → Q (leaf x) 
   unfolding order
   order-induct t D = ordered-induct (size t - 1) t D (omega (arith, size-some t))
 
-pub order-length : (t : Tree) → Distinct t → size t ≡ suc (length (order t))
-order-length = order-induct (λ t P. size t ≡ suc (length P)) (λ x. unfold size in refl) (λ m t P s e. collapsed-size m t (collapse m t) (s .back) ∙ ap suc e)
-
 pub order-rising : (t : Tree) → Distinct t → Rising (order t)
 unfolding Rising
 order-rising = order-induct (λ t P. Rising P) (λ x. tt) (λ m t P s g. (s .rises, g))
 
 -- the merges of a tree build its form again
-pub grown-least : (t : Tree) → Distinct t → grown (order t) leaf (least t) ≡ form t
+grown-least : (t : Tree) → Distinct t → grown (order t) leaf (least t) ≡ form t
 grown-least = order-induct (λ t P. grown P leaf (least t) ≡ form t) (λ x. unfold grown form least in refl)
     (λ m t P s e. grown-graft m P (least t) ∙ ap (graft m) (ap (grown P leaf) (sym (collapsed-least m t (collapse m t) (s .rises) (s .back))) ∙ e) ∙ sym (s .back .form-back))
 
@@ -183,9 +180,6 @@ order-good n t L = order-names t (L .once) (below-least n t L) .1
 pub order-under : (n : ℕ) (t : Tree) → LeavesBelow n t → Under n (order t)
 order-under n t L = under-named n (order t) (λ x e. ltb-true x n (sym (order-named n t L x) ∙ e))
 
-pub order-count : (n : ℕ) (t : Tree) → LeavesBelow n t → suc (length (order t)) ≡ n
-order-count n t L = sym (order-length t (L .once)) ∙ size-below n t L
-
 -- each larger name stands once
 pub order-once : (n : ℕ) (t : Tree) → LeavesBelow n t → (i : ℕ) → 1 ≤ i → i < n → times i (order t) ≡ 1
 order-once n t L i h l = named-times i (order t) (order-good n t L) h (order-named n t L i ∙ lt-ltb i n l)
@@ -201,10 +195,3 @@ order-turned n t L = sym (order-of-grown (order t) (order-rising t (L .once)) (o
 -- the order depends on the clades alone
 pub same-order : (n : ℕ) (t u : Tree) → LeavesBelow n t → LeavesBelow n u → SameClades t u → order t ≡ order u
 same-order n t u L M s = order-turned n t L ∙ ap order (clades-up-to-turning t u (L .once) (M .once) .0 s) ∙ sym (order-turned n u M)
-
--- and fixes them
-pub order-clades : (n : ℕ) (t u : Tree) → LeavesBelow n t → LeavesBelow n u → SameClades t u ↔ (order t ≡ order u)
-order-clades n t u L M = (
-  same-order n t u L M,
-  λ e. clades-up-to-turning t u (L .once) (M .once) .1 (sym (grown-order n t L) ∙ ap (λ (P : List Merge). grown P leaf 0) e ∙ grown-order n u M),
-)

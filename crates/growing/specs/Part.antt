@@ -17,7 +17,7 @@ unfoldable pub Part : Tree → Tree → Type 0
 Part s (leaf x) = s ≡ leaf x
 Part s (node l r) = (s ≡ node l r) ⊎ (Part s l ⊎ Part s r)
 
-pub part-whole : (t : Tree) → Part t t
+part-whole : (t : Tree) → Part t t
 unfolding Part
 part-whole (leaf x) = refl
 part-whole (node l r) = inl refl

@@ -68,7 +68,7 @@ best-is t m h k = go (best t) refl (chosen t)
     go (some b) e C = e ∙ ap some (⊎-elim (λ p. p) (λ l. absurd (omega (arith, C .above m h))) (k b (C .is-one)))
 
 -- a tree is a leaf or has a ready pair
-pub ready-some : (t : Tree) → ((x : ℕ) × (t ≡ leaf x)) ⊎ ((m : Merge) × Ready m t)
+ready-some : (t : Tree) → ((x : ℕ) × (t ≡ leaf x)) ⊎ ((m : Merge) × Ready m t)
 unfolding Ready ready
 ready-some (leaf x) = inl (x, refl)
 ready-some (node l r) = inr (go (ready-some l) (ready-some r))

@@ -1,5 +1,5 @@
 -- Merges without the one of the greatest leaf build the tree without that leaf; so does a vector cut short.
--- Main definition: keepBelow. Main results: pruned-grown, pruned-pairs, short-clades.
+-- Main definition: keepBelow. Main results: pruned-grown, pruned-pairs.
 use mathlib.Core.Path.{_≡_, refl, sym, ap, _∙_}
 use mathlib.Core.Bool.{Bool, true, false, cond, true≢false}
 use mathlib.Core.List.{List, [], _∷_}
@@ -10,14 +10,14 @@ use lib.Dec.{eqb, ltb}
 use borrow.Author.Tests.{ltb-true, ltb-false, lt-ltb, le-ltb, eqb-true, eqb-false, eq-eqb}
 use Rattle.rules.specs.Building.{Merge}
 use Rattle.rules.specs.Tree.{Tree, leaf, node, grown, has}
+use Rattle.clades.specs.Leaves.{has-left, has-right}
+use Rattle.clades.specs.Pruned.{beside, pruned, pruned-twice, pruned-all}
 use Rattle.merging.specs.Insertion.{pairsOf, Bounded}
 use Rattle.merging.specs.Once.{without, without-insert, never, fits}
 use Rattle.merging.specs.Greedy.{Under, under-pairs}
 use Rattle.merging.specs.Named.{named, Good, Rising, good, rising}
-use Rattle.growing.specs.Grown.{graft, grown-graft, has-grown}
 use Rattle.merging.specs.Names.{under-unnamed, pairs-named}
-use Rattle.clades.specs.Leaves.{has-left, has-right}
-use Rattle.clades.specs.Pruned.{beside, pruned, pruned-twice, pruned-all}
+use Rattle.growing.specs.Grown.{graft, grown-graft, has-grown}
 
 -- the leaves below n
 unfoldable pub keepBelow : ℕ → ℕ → Bool

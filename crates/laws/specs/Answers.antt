@@ -1,5 +1,5 @@
 -- Two answers that read alike are the same answer, so that a promise about what an answer reads as fixes the answer.
--- Main results: number-unique, reads-unique.
+-- Main result: reads-unique.
 use mathlib.Core.Bool.{cond}
 use mathlib.Core.Path.{_≡_, refl, sym, ap, _∙_}
 use Prim.Native.Nat.{ℕ}
@@ -37,10 +37,6 @@ kind-of-number Grammar = refl
 kind-of-number Label = refl
 kind-of-number Padding = refl
 kind-of-number Permutation = refl
-
--- no two kinds have one number
-pub number-unique : (k l : Kind) → numberOf k ≡ numberOf l → k ≡ l
-number-unique k l e = sym (kind-of-number k) ∙ ap kindOf e ∙ kind-of-number l
 
 -- the answer of an outcome
 answerOf : Outcome → Answer

@@ -1,5 +1,5 @@
 -- The guards of the calls: when a refusal speaks, and when the call goes on.
--- Main results: no-leaf, many-leaves, some-leaves (1); wrong-length, right-length (2); has-fault, no-fault (a fault found).
+-- Main results: no-leaf, many-leaves, some-leaves (1); wrong-length, right-length (2); refuse-if, pass-if (a test); refuse-at, pass-at (a fault found).
 use mathlib.Core.Bool.{Bool, true, false}
 use mathlib.Core.Logic.{_≢_}
 use mathlib.Core.Option.{Option, none, some}

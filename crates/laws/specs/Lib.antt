@@ -1,15 +1,15 @@
 -- The laws of the rules, and which sentence of 01 each answers.
 --
 -- "At each step the largest i that still names a cluster and sees one labelled v(i) merges with that one."
---     A leaf sees at most one cluster so labelled: building Labels.labels-apart. Some leaf can merge while two clusters are left:
---     building Going.two-left-go-on.
+--     building Next.next-ready, next-largest, next-none. A leaf sees at most one cluster so labelled: building Labels.labels-apart, over the
+--     states that a run reaches (Going.after-reached, reached-after). Some leaf can merge while two clusters are left: Going.two-left-go-on.
 -- "the smallest label j has not used"
 --     building Labels.smallest-is-unused, smaller-are-used; in a run it is the next number: used-below.
 -- "After n-1 steps one cluster is left."
 --     building Going.goes-on, one-left (it is named 0), stops.
 -- "The order of merges depends on the tree alone: of the pairs whose two clusters are complete, the one whose larger name is greatest
 -- comes first."
---     TreeOf.fact-one, equal-trees-equal-order; step by step: FactOne.fact-one-at-each-step.
+--     TreeOf.fact-one, equal-trees-equal-order; step by step: FactOne.fact-one-at-each-step; "the one": growing Fact1.ready-unique.
 -- "if s merges of two clusters both named below i came before i merged with cluster a, then v(i) = a when s = 0, else v(i) = i-1+s"
 --     FactTwo.fact-two-in-words; building Entry.fact-two.
 -- "lead to the same vector exactly when they have the same clades"
@@ -18,6 +18,8 @@
 --     OneToOne.every-tree, only-vector; the vector of a vector's tree: TreeOf.vector-again.
 -- "the child with the smaller least leaf first"
 --     TreeOf.tree-turned; the leaves of the tree: TreeOf.tree-leaves.
+-- "The result is the permutation new and the vector of the relabelled tree, which has v(i) < i for all i >= 1"
+--     shuffle_laws Taken.new-permutes, Shuffled.shuffled-ordered; "leaf x becoming p(x)": Renaming.renamed-below, renamed-clades.
 -- What a shortened vector means (a later request): Shortened.shortened-valid, shortened-tree, shortened-clades.
 -- What comes back: Answers.reads-unique. When a call refuses: Guards, FromVector, FromTable, FromRecord.
 pub mod Answers

@@ -12,14 +12,14 @@ use borrow.Author.Tests.{ltb-true, ltb-false}
 use Rattle.rules.specs.Vector.{Valid}
 use Rattle.rules.specs.Tree.{Tree, leaf, treeOf, grown, LeavesBelow, SameClades}
 use Rattle.rules.specs.Order.{order, vectorOf, listed, entryAt}
-use Rattle.building.specs.Backwards.{InOrder, in-order-is-merges}
-use Rattle.building.specs.Entry.{merges-injective}
 use Rattle.basics.specs.Listed.{length-listed}
 use Rattle.clades.specs.Size.{size-below}
 use Rattle.clades.specs.Form.{form-clades}
 use Rattle.clades.specs.Leaves.{below-some}
-use Rattle.growing.specs.OrderOf.{order-rising, order-good, order-greedy, order-under, order-once, grown-order}
 use Rattle.clades.specs.Same.{same-refl, same-sym, same-trans, same-leaves}
+use Rattle.building.specs.Backwards.{InOrder, in-order-is-merges}
+use Rattle.building.specs.Entry.{merges-injective}
+use Rattle.growing.specs.OrderOf.{order-rising, order-good, order-greedy, order-under, order-once, grown-order}
 use Rattle.laws.specs.TreeOf.{tree-leaves, equal-trees-equal-order}
 
 -- trees with the same leaves have the same number of them
@@ -31,7 +31,7 @@ same-count m n h = go (ltb m n) (ltb n m) refl refl
     go false true p q = absurd (omega (arith, ltb-true n n (sym (h n) ∙ q)))
     go false false p q = omega (arith, ltb-false m n p, ltb-false n m q)
 
-pub same-length : (v w : List ℕ) → Valid v → Valid w → SameClades (treeOf v) (treeOf w) → length v ≡ length w
+same-length : (v w : List ℕ) → Valid v → Valid w → SameClades (treeOf v) (treeOf w) → length v ≡ length w
 same-length v w ok ok′ s =
     same-count (length v) (length w)
     (λ x. sym (tree-leaves v ok .all x) ∙ same-leaves (treeOf v) (treeOf w) s x ∙ tree-leaves w ok′ .all x)
@@ -59,7 +59,7 @@ pub record VectorOf (n : ℕ) (t : Tree) (v : List ℕ) : Type 0 where
   pub entries : length v ≡ n
   pub clades : SameClades (treeOf v) t
 
-pub vector-listed : (n : ℕ) (t : Tree) → LeavesBelow n t → listed n (entryAt (order t)) ≡ vectorOf t
+vector-listed : (n : ℕ) (t : Tree) → LeavesBelow n t → listed n (entryAt (order t)) ≡ vectorOf t
 unfolding vectorOf
 vector-listed n t L = ap (λ (k : ℕ). listed k (entryAt (order t))) (sym (size-below n t L))
 

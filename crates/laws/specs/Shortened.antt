@@ -9,9 +9,9 @@ use Prim.Native.Nat.{ℕ, _≤_}
 use lib.ListN.{length, take}
 use Rattle.rules.specs.Vector.{Valid, entry}
 use Rattle.rules.specs.Tree.{leaf, treeOf, grown, Clade}
+use Rattle.clades.specs.Pruned.{pruned, Restriction, pruned-clades}
 use Rattle.merging.specs.Insertion.{pairs, valid-bounded}
 use Rattle.building.specs.Shortened.{valid-take, only-pairs, pairs-take}
-use Rattle.clades.specs.Pruned.{pruned, Restriction, pruned-clades}
 use Rattle.growing.specs.Shortened.{keepBelow, pruned-pairs}
 use Rattle.laws.specs.TreeOf.{tree-by-pairs}
 

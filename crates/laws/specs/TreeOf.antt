@@ -8,15 +8,15 @@ use Rattle.rules.specs.Vector.{Valid, entry}
 use Rattle.rules.specs.Building.{merges}
 use Rattle.rules.specs.Tree.{leaf, size, treeOf, grown, LeavesBelow, SameClades}
 use Rattle.rules.specs.Order.{order, vectorOf, listed, entryAt}
-use Rattle.merging.specs.Insertion.{pairs, valid-bounded}
-use Rattle.building.specs.Built.{merges-are-pairs}
-use Rattle.building.specs.Entry.{entries-of-merges}
 use Rattle.clades.specs.Form.{form, Turned, form-turned}
 use Rattle.clades.specs.Size.{size-below}
+use Rattle.merging.specs.Insertion.{pairs, valid-bounded}
+use Rattle.merging.specs.Named.{rising}
+use Rattle.building.specs.Built.{merges-are-pairs}
+use Rattle.building.specs.Entry.{entries-of-merges}
 use Rattle.growing.specs.Fact1.{pairs-order, pairs-below}
 use Rattle.growing.specs.Grown.{form-grown}
 use Rattle.growing.specs.OrderOf.{same-order}
-use Rattle.merging.specs.Named.{rising}
 
 -- the tree by insertion
 pub tree-by-pairs : (v : List ℕ) → Valid v → treeOf v ≡ grown (pairs v) leaf 0

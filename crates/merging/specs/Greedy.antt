@@ -39,42 +39,42 @@ unfoldable pub Under : ℕ → List Merge → Type 0
 Under n [] = Unit {0}
 Under n (m ∷ P) = (m .1 < n) × Under n P
 
-pub under-ahead : (n : ℕ) (Q P : List Merge) → Under n P → Ahead n Q P
+under-ahead : (n : ℕ) (Q P : List Merge) → Under n P → Ahead n Q P
 unfolding Under Ahead
 under-ahead n Q [] u = tt
 under-ahead n Q (p ∷ P) u = (λ _. u .0, under-ahead n (p ∷ Q) P (u .1))
 
 -- the more there is before, the fewer are free
-unfoldable pub More : List Merge → List Merge → Type 0
+unfoldable More : List Merge → List Merge → Type 0
 More Q Q′ = (p : Merge) → free Q′ p ≡ true → free Q p ≡ true
 
-pub more-cons : (q : Merge) (Q Q′ : List Merge) → More Q Q′ → More (q ∷ Q) (q ∷ Q′)
+more-cons : (q : Merge) (Q Q′ : List Merge) → More Q Q′ → More (q ∷ Q) (q ∷ Q′)
 unfolding More free
 more-cons q Q Q′ h p e = rw (and-left (not (touch q p)) (free Q′ p) e) (h p (and-right (not (touch q p)) (free Q′ p) e))
 
-pub more-skip : (q : Merge) (Q : List Merge) → More Q (q ∷ Q)
+more-skip : (q : Merge) (Q : List Merge) → More Q (q ∷ Q)
 unfolding More free
 more-skip q Q p e = and-right (not (touch q p)) (free Q p) e
 
-pub ahead-more : (i : ℕ) (Q Q′ P : List Merge) → More Q Q′ → Ahead i Q P → Ahead i Q′ P
+ahead-more : (i : ℕ) (Q Q′ P : List Merge) → More Q Q′ → Ahead i Q P → Ahead i Q′ P
 unfolding Ahead More
 ahead-more i Q Q′ [] h A = tt
 ahead-more i Q Q′ (p ∷ P) h A = (λ e. A .0 (h p e), ahead-more i (p ∷ Q) (p ∷ Q′) P (more-cons p Q Q′ h) (A .1))
 
 -- the new pair waits for the one right before it
-pub waits : (n : ℕ) (m : Merge) (Q : List Merge) → free (m ∷ Q) (m .0, n) ≡ false
+waits : (n : ℕ) (m : Merge) (Q : List Merge) → free (m ∷ Q) (m .0, n) ≡ false
 unfolding free touch
 waits n m Q = rw (eq-eqb (m .0) (m .0) refl)
 
 -- ahead of P, and of P with the new pair put in
-pub ahead-put : (i n d : ℕ) (Q P : List Merge) → d < length P → Ahead i Q P → Ahead i Q (put n d P)
+ahead-put : (i n d : ℕ) (Q P : List Merge) → d < length P → Ahead i Q P → Ahead i Q (put n d P)
 unfolding Ahead put
 ahead-put i n d Q [] h A = absurd (omega arith)
 ahead-put i n zero Q (m ∷ P) h A =
     (A .0, (λ e. absurd (true≢false (sym e ∙ waits n m Q)), ahead-more i (m ∷ Q) ((m .0, n) ∷ m ∷ Q) P (more-skip (m .0, n) (m ∷ Q)) (A .1)))
 ahead-put i n (suc d) Q (m ∷ P) h A = (A .0, ahead-put i n d (m ∷ Q) P (omega arith) (A .1))
 
-pub greedy-put : (n d : ℕ) (P : List Merge) → Under n P → d < length P → Greedy P → Greedy (put n d P)
+greedy-put : (n d : ℕ) (P : List Merge) → Under n P → d < length P → Greedy P → Greedy (put n d P)
 unfolding Greedy put Under Ahead
 greedy-put n d [] u h G = absurd (omega arith)
 greedy-put n zero (m ∷ P) u h G = (
@@ -83,12 +83,12 @@ greedy-put n zero (m ∷ P) u h G = (
 )
 greedy-put n (suc d) (m ∷ P) u h G = (ahead-put (m .1) n d (m ∷ []) P (omega arith) (G .0), greedy-put n d P (u .1) (omega arith) (G .1))
 
-pub under-up : (n : ℕ) (P : List Merge) → Under n P → Under (suc n) P
+under-up : (n : ℕ) (P : List Merge) → Under n P → Under (suc n) P
 unfolding Under
 under-up n [] u = tt
 under-up n (m ∷ P) u = let l = u .0 in (omega arith, under-up n P (u .1))
 
-pub under-put : (n d : ℕ) (P : List Merge) → Under n P → Under (suc n) (put n d P)
+under-put : (n d : ℕ) (P : List Merge) → Under n P → Under (suc n) (put n d P)
 unfolding Under put
 under-put n d [] u = (omega arith, tt)
 under-put n zero (m ∷ P) u = let l = u .0 in (omega arith, (omega arith, under-up n P (u .1)))
@@ -108,7 +108,7 @@ under-pairs v zero = tt
 under-pairs v (suc zero) = tt
 under-pairs v (suc (suc m)) = under-insert (suc m) (v (suc m)) (pairsOf v (suc m)) (under-pairs v (suc m))
 
-pub greedy-insert : (n x : ℕ) (P : List Merge) → Under n P → (n ≤ x → x - n < length P) → Greedy P → Greedy (insert n x P)
+greedy-insert : (n x : ℕ) (P : List Merge) → Under n P → (n ≤ x → x - n < length P) → Greedy P → Greedy (insert n x P)
 unfolding insert Greedy
 greedy-insert n x P u h G = go (ltb x n) refl
   where

@@ -1,14 +1,12 @@
 -- The merges of a vector by insertion: each entry puts its leaf's merge into the merges of the entries before it.
--- Main definitions: put, insert, pairsOf, pairs, Bounded. Main results: valid-bounded, pairs-length, pairs-count, pairs-cong, pairs-snoc.
-use mathlib.Core.Path.{_≡_, refl, ap, ap₂, _∙_}
+-- Main definitions: put, insert, pairsOf, pairs, Bounded. Main results: valid-bounded, pairs-length, pairs-count, pairs-cong.
+use mathlib.Core.Path.{_≡_, refl, ap₂}
 use mathlib.Core.Bool.{Bool, true, false, cond}
 use mathlib.Core.List.{List, [], _∷_, _++_}
 use Prim.Native.Nat.{ℕ, zero, suc, _-_, _*_, _≤_, _<_}
-use native.Mathlib.Numerals.{add-one}
 use native.Mathlib.Omega.{arith}
 use lib.Dec.{ltb}
-use lib.ListN.{length, take, drop, getD, length-append, length-take, length-drop, List·getD-append}
-use lib.Seq.{getD-append-seam}
+use lib.ListN.{length, take, drop, getD, length-append, length-take, length-drop}
 use Rattle.rules.specs.Vector.{entry, bound, Valid}
 use Rattle.rules.specs.Building.{Merge}
 
@@ -48,11 +46,11 @@ pub put-suc : (n d : ℕ) (m : Merge) (P : List Merge) → put n (suc d) (m ∷ 
 unfolding put
 put-suc n d m P = refl
 
-pub put-length : (i d : ℕ) (P : List Merge) → length (put i d P) ≡ suc (length P)
+put-length : (i d : ℕ) (P : List Merge) → length (put i d P) ≡ suc (length P)
 unfolding put
 put-length i d P = omega (arith, length-append (take (suc d) P) ((getD P d (0, 0) .0, i) ∷ drop (suc d) P), length-take (suc d) P, length-drop (suc d) P)
 
-pub insert-length : (i x : ℕ) (P : List Merge) → length (insert i x P) ≡ suc (length P)
+insert-length : (i x : ℕ) (P : List Merge) → length (insert i x P) ≡ suc (length P)
 unfolding insert
 insert-length i x P = go (ltb x i)
   where
@@ -75,11 +73,3 @@ unfolding pairsOf
 pairs-cong u v zero h = refl
 pairs-cong u v (suc zero) h = refl
 pairs-cong u v (suc (suc m)) h = ap₂ (insert (suc m)) (h (suc m) (omega arith)) (pairs-cong u v (suc m) (λ i l. h i (omega arith)))
-
--- the recursion as it is stated
-pub pairs-snoc : (y : ℕ) (w : List ℕ) (x : ℕ) → pairs ((y ∷ w) ++ (x ∷ [])) ≡ insert (suc (length w)) x (pairs (y ∷ w))
-unfolding pairs pairsOf entry
-pairs-snoc y w x =
-    ap (λ (k : ℕ). pairsOf (entry ((y ∷ w) ++ (x ∷ []))) (suc k)) (length-append w (x ∷ []) ∙ add-one (length w))
-    ∙ ap₂ (insert (suc (length w))) (getD-append-seam w x [] 0)
-    (pairs-cong (entry ((y ∷ w) ++ (x ∷ []))) (entry (y ∷ w)) (suc (length w)) (λ i l. List·getD-append (y ∷ w) (x ∷ []) 0 i l))

@@ -1,5 +1,5 @@
 -- The names that a list of merges, read backwards, has brought in: each merge takes a cluster that is there into another.
--- Main definitions: named, Good, Rising. Main results: names-all, good, rising.
+-- Main definitions: named, Good, Rising. Main results: named-all, good, rising.
 use mathlib.Core.Path.{_≡_, refl, sym, _∙_}
 use mathlib.Core.Bool.{Bool, true, false, _||_, cond}
 use mathlib.Core.List.{List, [], _∷_}
@@ -23,13 +23,13 @@ unfolding named
 Good [] = Unit {0}
 Good (m ∷ P) = (named P (m .0) ≡ true) × (named P (m .1) ≡ false) × Good P
 
-pub named-put : (n d : ℕ) (P : List Merge) (x : ℕ) → named (put n d P) x ≡ named P x || eqb n x
+named-put : (n d : ℕ) (P : List Merge) (x : ℕ) → named (put n d P) x ≡ named P x || eqb n x
 unfolding named put
 named-put n d [] x = refl
 named-put n zero (m ∷ P) x = or-swap (named P x) (eqb n x) (eqb (m .1) x)
 named-put n (suc d) (m ∷ P) x = rw (named-put n d P x) (or-swap (named P x) (eqb n x) (eqb (m .1) x))
 
-pub named-insert : (n y : ℕ) (P : List Merge) (x : ℕ) → named (insert n y P) x ≡ named P x || eqb n x
+named-insert : (n y : ℕ) (P : List Merge) (x : ℕ) → named (insert n y P) x ≡ named P x || eqb n x
 unfolding insert named
 named-insert n y P x = go (ltb y n)
   where
@@ -47,12 +47,12 @@ named-all v (suc (suc m)) x h = named-insert (suc m) (v (suc m)) (pairsOf v (suc
     go true q ih = or-right (named (pairsOf v (suc m)) x) (eqb (suc m) x) (eq-eqb (suc m) x (sym (eqb-true x (suc m) q)))
     go false q ih = or-left (named (pairsOf v (suc m)) x) (eqb (suc m) x) (ih (omega (arith, eqb-false x (suc m) q)))
 
-pub named-under : (n : ℕ) (P : List Merge) → 0 < n → Under n P → named P n ≡ false
+named-under : (n : ℕ) (P : List Merge) → 0 < n → Under n P → named P n ≡ false
 unfolding named Under
 named-under n [] h u = ne-eqb 0 n (omega arith)
 named-under n (m ∷ P) h u = rw (named-under n P h (u .1), ne-eqb (m .1) n (let l = u .0 in omega arith))
 
-pub good-put : (n d : ℕ) (P : List Merge) → Good P → named P n ≡ false → d < length P → Good (put n d P)
+good-put : (n d : ℕ) (P : List Merge) → Good P → named P n ≡ false → d < length P → Good (put n d P)
 unfolding Good put named
 good-put n d [] G e h = absurd (omega arith)
 good-put n zero (m ∷ P) G e h =
@@ -68,7 +68,7 @@ good-put n (suc d) (m ∷ P) G e h =
       good-put n d P (G .2) (k .0) (omega arith),
     )
 
-pub good-insert : (n x : ℕ) (P : List Merge) → Good P → ((y : ℕ) → y < n → named P y ≡ true) → named P n ≡ false → (n ≤ x → x - n < length P) → Good (insert n x P)
+good-insert : (n x : ℕ) (P : List Merge) → Good P → ((y : ℕ) → y < n → named P y ≡ true) → named P n ≡ false → (n ≤ x → x - n < length P) → Good (insert n x P)
 unfolding insert Good
 good-insert n x P G f e h = go (ltb x n) refl
   where
@@ -90,7 +90,7 @@ unfoldable pub Rising : List Merge → Type 0
 Rising [] = Unit {0}
 Rising (m ∷ P) = (m .0 < m .1) × Rising P
 
-pub rising-put : (n d : ℕ) (P : List Merge) → Under n P → Rising P → d < length P → Rising (put n d P)
+rising-put : (n d : ℕ) (P : List Merge) → Under n P → Rising P → d < length P → Rising (put n d P)
 unfolding Rising put Under
 rising-put n d [] u g h = absurd (omega arith)
 rising-put n zero (m ∷ P) u g h = let a = u .0 in let b = g .0 in (b, (omega arith, g .1))

@@ -81,7 +81,7 @@ pairs-named v n h x = go (ltb x n) refl
 
 -- the merges R after the merges Q
 
-pub named-more : (Q R : List Merge) (x : ℕ) → named R x ≡ true → named (Q ++ R) x ≡ true
+named-more : (Q R : List Merge) (x : ℕ) → named R x ≡ true → named (Q ++ R) x ≡ true
 unfolding named
 named-more [] R x h = h
 named-more (q ∷ Q) R x h = or-left (named (Q ++ R) x) (eqb (q .1) x) (named-more Q R x h)

@@ -1,6 +1,6 @@
--- Each larger name occurs once among the merges of a vector, and the merges fix the vector.
--- Main definitions: times, place, entryIn, without. Main results: never, once, injective.
-use mathlib.Core.Path.{_≡_, refl, sym, ap, _∙_}
+-- Each larger name occurs once among the merges of a vector; the last leaf's entry, and the merges without it, are read off the merges.
+-- Main definitions: times, place, entryIn, without. Main results: never, once, entryIn-insert, without-insert.
+use mathlib.Core.Path.{_≡_, refl, ap}
 use mathlib.Core.Logic.{_≢_}
 use mathlib.Core.Bool.{Bool, true, false, cond}
 use mathlib.Core.List.{List, [], _∷_, _++_}
@@ -26,7 +26,7 @@ unfolding times
 times-append i [] Q = omega arith
 times-append i (m ∷ P) Q = omega (arith, times-append i P Q)
 
-pub times-put : (i n d : ℕ) (P : List Merge) → times i (put n d P) ≡ hit i n + times i P
+times-put : (i n d : ℕ) (P : List Merge) → times i (put n d P) ≡ hit i n + times i P
 unfolding put times
 times-put i n d P =
     omega (
@@ -95,19 +95,19 @@ misses n m P e = go (eqb n (m .1)) e
     go true e′ = absurd (omega arith)
     go false e′ = (refl, omega arith)
 
-pub place-put : (n d : ℕ) (P : List Merge) → times n P ≡ 0 → d < length P → place n (put n d P) ≡ suc d
+place-put : (n d : ℕ) (P : List Merge) → times n P ≡ 0 → d < length P → place n (put n d P) ≡ suc d
 unfolding put place
 place-put n d [] z h = absurd (omega arith)
 place-put n zero (m ∷ P) z h = rw (misses n m P z .0, eq-eqb n n refl)
 place-put n (suc d) (m ∷ P) z h = rw (misses n m P z .0) (ap suc (place-put n d P (misses n m P z .1) (omega arith)))
 
-pub entryIn-put : (n d : ℕ) (P : List Merge) → times n P ≡ 0 → d < length P → entryIn n (put n d P) ≡ n + d
+entryIn-put : (n d : ℕ) (P : List Merge) → times n P ≡ 0 → d < length P → entryIn n (put n d P) ≡ n + d
 unfolding put place entryIn
 entryIn-put n d [] z h = absurd (omega arith)
 entryIn-put n zero (m ∷ P) z h = rw (misses n m P z .0, eq-eqb n n refl)
 entryIn-put n (suc d) (m ∷ P) z h = rw (misses n m P z .0) (ap (λ (k : ℕ). n + k) (place-put n d P (misses n m P z .1) (omega arith)))
 
-pub without-put : (n d : ℕ) (P : List Merge) → times n P ≡ 0 → d < length P → without n (put n d P) ≡ P
+without-put : (n d : ℕ) (P : List Merge) → times n P ≡ 0 → d < length P → without n (put n d P) ≡ P
 unfolding put without
 without-put n d [] z h = absurd (omega arith)
 without-put n zero (m ∷ P) z h = rw (misses n m P z .0, eq-eqb n n refl)
@@ -132,20 +132,3 @@ without-insert n x P z h = go (ltb x n) refl
 pub fits : (v : ℕ → ℕ) (m : ℕ) → Bounded v (suc (suc m)) → suc m ≤ v (suc m) → v (suc m) - suc m < length (pairsOf v (suc m))
 unfolding Bounded
 fits v m ok h = omega (arith, ok (suc m) (omega arith), pairs-length v m)
-
-pub injective : (v w : ℕ → ℕ) (n : ℕ) → Bounded v n → Bounded w n → pairsOf v n ≡ pairsOf w n → (i : ℕ) → i < n → v i ≡ w i
-unfolding pairsOf Bounded
-injective v w zero ok ok′ e i h = absurd (omega arith)
-injective v w (suc zero) ok ok′ e i h = omega (arith, ok i h, ok′ i h)
-injective v w (suc (suc m)) ok ok′ e i h =
-    go (eqb i (suc m)) refl (injective v w (suc m) (λ j l. ok j (omega arith)) (λ j l. ok′ j (omega arith)) (sym (back v ok) ∙ ap (without (suc m)) e ∙ back w ok′) i)
-  where
-    back : (u : ℕ → ℕ) → Bounded u (suc (suc m)) → without (suc m) (insert (suc m) (u (suc m)) (pairsOf u (suc m))) ≡ pairsOf u (suc m)
-    back u k = without-insert (suc m) (u (suc m)) (pairsOf u (suc m)) (never u (suc m) (suc m) (omega arith)) (fits u m k)
-
-    read : (u : ℕ → ℕ) → Bounded u (suc (suc m)) → entryIn (suc m) (insert (suc m) (u (suc m)) (pairsOf u (suc m))) ≡ u (suc m)
-    read u k = entryIn-insert (suc m) (u (suc m)) (pairsOf u (suc m)) (never u (suc m) (suc m) (omega arith)) (fits u m k)
-
-    go : (b : Bool) → eqb i (suc m) ≡ b → (i < suc m → v i ≡ w i) → v i ≡ w i
-    go true q ih = rw (eqb-true i (suc m) q) (sym (read v ok) ∙ ap (entryIn (suc m)) e ∙ read w ok′)
-    go false q ih = ih (omega (arith, eqb-false i (suc m) q))

@@ -1,20 +1,20 @@
 -- Counting: how often a leaf stands in a tree.
 -- Main definition: leafTimes. Main results: one-more, sum-hit, has-times, times-has, below-times, times-below.
-use mathlib.Core.Path.{_≡_, refl, sym, _∙_}
+use mathlib.Core.Path.{_≡_, sym, _∙_}
 use mathlib.Core.Logic.{_≢_}
-use mathlib.Core.Bool.{Bool, true, false, cond, true≢false}
-use Prim.Native.Nat.{ℕ, zero, suc, _+_, _≤_, _<_}
+use mathlib.Core.Bool.{true, false, true≢false}
+use Prim.Native.Nat.{ℕ, zero, suc, _+_, _≤_}
 use native.Mathlib.Omega.{arith}
 use lib.Dec.{eqb, ltb}
-use borrow.Author.Tests.{ltb-true, ltb-false, lt-ltb, le-ltb, eqb-true, eqb-false, eq-eqb}
-use Rattle.rules.specs.Tree.{Tree, leaf, node, has, size, Distinct, LeavesBelow}
+use borrow.Author.Tests.{ltb-true, ltb-false, lt-ltb, eqb-true, eq-eqb}
+use Rattle.rules.specs.Tree.{Tree, leaf, node, has, Distinct, LeavesBelow}
 use Rattle.basics.specs.Bools.{both}
 use Rattle.basics.specs.Cases.{by-lt, by-eq, by-test}
 use Rattle.basics.specs.Sums.{one, one-le, one-lt, one-ge, one-lt-below, sumBelow}
 use Rattle.clades.specs.Leaves.{has-left, has-right}
 use Rattle.merging.specs.Once.{hit, hit-same, hit-other}
 
-pub hit-swap : (x y : ℕ) → hit x y ≡ hit y x
+hit-swap : (x y : ℕ) → hit x y ≡ hit y x
 hit-swap x y =
     by-eq x y (λ e. hit-same x y e ∙ sym (hit-same y x (sym e))) (λ n. hit-other x y n ∙ sym (hit-other y x (λ e. n (sym e))))
 
@@ -57,7 +57,7 @@ times-has x (node l r) h =
     (λ q. has-left l r x (times-has x l q))
     (λ q. has-right l r x (times-has x r (omega arith)))
 
-pub has-no-times : (x : ℕ) (t : Tree) → has t x ≡ false → leafTimes x t ≡ 0
+has-no-times : (x : ℕ) (t : Tree) → has t x ≡ false → leafTimes x t ≡ 0
 has-no-times x t e =
     by-lt 0 (leafTimes x t) (λ q. absurd (true≢false (sym (times-has x t q) ∙ e))) (λ q. omega arith)
 
@@ -65,7 +65,7 @@ pub hit-le : (x y : ℕ) → hit x y ≤ 1
 unfolding hit one
 hit-le x y = one-le (eqb x y)
 
-pub distinct-times : (x : ℕ) (t : Tree) → Distinct t → leafTimes x t ≤ 1
+distinct-times : (x : ℕ) (t : Tree) → Distinct t → leafTimes x t ≤ 1
 unfolding Distinct leafTimes
 distinct-times x (leaf y) d = hit-le x y
 distinct-times x (node l r) d =
@@ -73,7 +73,7 @@ distinct-times x (node l r) d =
     (λ q. by-test (has r x) (λ q₂. absurd (d .0 x q q₂)) (λ q₂. omega (arith, distinct-times x l (d .1), has-no-times x r q₂)))
     (λ q. omega (arith, distinct-times x r (d .2), has-no-times x l q))
 
-pub times-distinct : (t : Tree) → ((x : ℕ) → leafTimes x t ≤ 1) → Distinct t
+times-distinct : (t : Tree) → ((x : ℕ) → leafTimes x t ≤ 1) → Distinct t
 unfolding Distinct leafTimes
 times-distinct (leaf y) h = tt
 times-distinct (node l r) h = (

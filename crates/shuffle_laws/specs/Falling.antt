@@ -13,9 +13,9 @@ use Rattle.rules.specs.Building.{Merge, follow}
 use Rattle.rules.specs.Tree.{Tree, leaf, node, least}
 use Rattle.rules.specs.Order.{ready, greater, best, isMerge, collapse, ordered, earlier, partner, entryFrom, entryAt}
 use Rattle.basics.specs.Bools.{and-false}
-use Rattle.merging.specs.Once.{hit, hit-same, hit-other}
 use Rattle.basics.specs.Cases.{by-lt, by-eq}
-use Rattle.basics.specs.Sums.{one, one-le, one-lt, one-ge, one-lt-below}
+use Rattle.basics.specs.Sums.{one, one-le, one-lt, one-lt-below}
+use Rattle.merging.specs.Once.{hit, hit-same, hit-other}
 use Rattle.shuffle_laws.specs.Count.{one-more, hit-one, leafTimes}
 
 -- the larger name of the pair of two parts
@@ -39,7 +39,7 @@ unfolding Falling
 falling-down lo lo′ (leaf x) h f = tt
 falling-down lo lo′ (node l r) h f = let k = f .1 in (f .0, omega arith, f .2, f .3)
 
-pub hit-min-max : (x a b : ℕ) → hit x (min a b) + hit x (max a b) ≡ hit x a + hit x b
+hit-min-max : (x a b : ℕ) → hit x (min a b) + hit x (max a b) ≡ hit x a + hit x b
 hit-min-max x a b =
     by-lt a b
     (λ l. let low : min a b ≡ a = omega arith in let high : max a b ≡ b = omega arith in rw (low, high))
@@ -51,7 +51,7 @@ unfolding tops leafTimes least
 tops-leaves x (leaf y) = omega arith
 tops-leaves x (node l r) = omega (arith, hit-min-max x (least l) (least r), tops-leaves x l, tops-leaves x r)
 
-pub falling-tops : (lo x : ℕ) (t : Tree) → Falling lo t → 1 ≤ tops x t → lo ≤ x
+falling-tops : (lo x : ℕ) (t : Tree) → Falling lo t → 1 ≤ tops x t → lo ≤ x
 unfolding Falling tops
 falling-tops lo x (leaf y) f h = absurd (omega arith)
 falling-tops lo x (node l r) f h = let low = f .1 in
@@ -73,7 +73,7 @@ not-merge m (leaf a) (node l r) d = refl
 not-merge m (node l r) u d = refl
 
 -- a merge that is none of a part's leaves the part as it is
-pub collapse-same : (m : Merge) (t : Tree) → tops (m .1) t ≡ 0 → collapse m t ≡ t
+collapse-same : (m : Merge) (t : Tree) → tops (m .1) t ≡ 0 → collapse m t ≡ t
 unfolding collapse tops
 collapse-same m (leaf x) h = refl
 collapse-same m (node l r) h =
@@ -207,7 +207,7 @@ left-pair a b =
     rw (eq-eqb (min a b) (min a b) refl, eq-eqb (max a b) (max a b) refl)
     (record { name = refl; fewer = λ x. omega arith; falls = λ lo f. tt })
 
-pub next-pair : (a b : ℕ) → a ≢ b → Next (node (leaf a) (leaf b)) (min a b, max a b)
+next-pair : (a b : ℕ) → a ≢ b → Next (node (leaf a) (leaf b)) (min a b, max a b)
 unfolding best ready greater tops least
 next-pair a b d = record {
   leaves = λ o. left-pair a b;
@@ -284,7 +284,7 @@ ordered-down (suc k) lo (node l r) f h =
     (n .1 .rises, e, ordered-down k lo (collapse (n .0) (node l r)) (L .falls lo f) (names-left k (node l r) (collapse (n .0) (node l r)) (n .0) h e L))
 
 -- where the larger names go down to 1, nothing came earlier, and each entry is the partner
-pub down-earlier : (k : ℕ) (ms : List Merge) (i : ℕ) → Down k ms → 1 ≤ i → i ≤ k → earlier i ms ≡ 0
+down-earlier : (k : ℕ) (ms : List Merge) (i : ℕ) → Down k ms → 1 ≤ i → i ≤ k → earlier i ms ≡ 0
 unfolding Down earlier
 down-earlier zero ms i d h l = absurd (omega arith)
 down-earlier (suc k) [] i d h l = absurd d
@@ -293,7 +293,7 @@ down-earlier (suc k) (m ∷ ms) i d h l = let e = d .1 in
     (λ n. rw (ne-eqb i (m .1) n, le-ltb (m .1) i (omega arith), and-false (ltb (m .0) i))
     (omega (arith, down-earlier k ms i (d .2) h (omega (arith, n)))))
 
-pub down-partner : (k : ℕ) (ms : List Merge) (i : ℕ) → Down k ms → 1 ≤ i → i ≤ k → partner i ms < i
+down-partner : (k : ℕ) (ms : List Merge) (i : ℕ) → Down k ms → 1 ≤ i → i ≤ k → partner i ms < i
 unfolding Down partner
 down-partner zero ms i d h l = absurd (omega arith)
 down-partner (suc k) [] i d h l = absurd d

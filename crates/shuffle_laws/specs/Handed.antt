@@ -1,5 +1,5 @@
 -- Queue Shuffle over inner nodes alone: a leaf's label is known when its parent is taken. It gives the same labels in the same order.
--- Main definitions: atOnce, waiting, handed, fill, outcome. Main results: taken-handed, outcome-take, outcome-place, outcome-new.
+-- Main definitions: atOnce, waiting, handed, fill, outcome. Main results: taken-handed, outcome-take, outcome-leaf, outcome-node, outcome-new.
 use mathlib.Core.Path.{_≡_, refl, sym, ap, _∙_}
 use mathlib.Core.List.{List, [], _∷_, _++_, append-assoc, append-nil}
 use Prim.Native.Nat.{ℕ, zero, suc, _+_, _-_, _*_, _≤_, _<_}
@@ -10,11 +10,11 @@ use borrow.Author.Tests.{eq-eqb, ne-eqb, lt-ltb}
 use Rattle.rules.specs.Tree.{Tree, leaf, node, least, size, LeavesBelow}
 use Rattle.rules.specs.Order.{listed}
 use Rattle.rules.specs.Shuffle.{Queue, Given, behind, taken, given, newOf}
-use Rattle.merging.specs.Once.{hit-same, hit-other}
 use Rattle.basics.specs.Listed.{length-listed, listed-at}
 use Rattle.basics.specs.Cases.{by-lt, by-eq}
 use Rattle.basics.specs.Sums.{one-lt, one-ge}
 use Rattle.clades.specs.Size.{size-below}
+use Rattle.merging.specs.Once.{hit-same, hit-other}
 use Rattle.shuffle_laws.specs.Count.{below-times}
 use Rattle.shuffle_laws.specs.Taken.{inner, innerIn, nodes, nodesIn, weigh, nodes-behind, nodes-inner, inner-behind, size-inner, sumGiven, leafGiven, leaf-given, allGiven}
 
@@ -37,13 +37,13 @@ handed (suc k) next [] = []
 handed (suc k) next ((leaf x, b) ∷ q) = []
 handed (suc k) next ((node l r, b) ∷ q) = atOnce (behind l r b next) ++ handed k (next + 1) (q ++ waiting (behind l r b next))
 
-pub once-append : (q q′ : Queue) → atOnce (q ++ q′) ≡ atOnce q ++ atOnce q′
+once-append : (q q′ : Queue) → atOnce (q ++ q′) ≡ atOnce q ++ atOnce q′
 unfolding atOnce
 once-append [] q′ = refl
 once-append ((leaf x, b) ∷ q) q′ = ap (λ (gs : List Given). (x, b) ∷ gs) (once-append q q′)
 once-append ((node l r, b) ∷ q) q′ = once-append q q′
 
-pub waiting-append : (q q′ : Queue) → waiting (q ++ q′) ≡ waiting q ++ waiting q′
+waiting-append : (q q′ : Queue) → waiting (q ++ q′) ≡ waiting q ++ waiting q′
 unfolding waiting
 waiting-append [] q′ = refl
 waiting-append ((leaf x, b) ∷ q) q′ = waiting-append q q′
@@ -73,19 +73,19 @@ unfoldable pub fill : List Given → List ℕ → List ℕ
 fill [] new = new
 fill (g ∷ gs) new = fill gs (set new (g .0) (g .1))
 
-pub length-fill : (gs : List Given) (new : List ℕ) → length (fill gs new) ≡ length new
+length-fill : (gs : List Given) (new : List ℕ) → length (fill gs new) ≡ length new
 unfolding fill
 length-fill [] new = refl
 length-fill (g ∷ gs) new = length-fill gs (set new (g .0) (g .1)) ∙ length-set new (g .0) (g .1)
 
-pub fill-other : (gs : List Given) (new : List ℕ) (x : ℕ) → leafGiven x gs ≡ 0 → getD (fill gs new) x 0 ≡ getD new x 0
+fill-other : (gs : List Given) (new : List ℕ) (x : ℕ) → leafGiven x gs ≡ 0 → getD (fill gs new) x 0 ≡ getD new x 0
 unfolding fill sumGiven
 fill-other [] new x h = refl
 fill-other (g ∷ gs) new x h =
     fill-other gs (set new (g .0) (g .1)) x (omega arith)
     ∙ getD-set-other new (g .0) x (g .1) 0 (λ e. absurd (omega (arith, hit-same x (g .0) e)))
 
-pub fill-given : (gs : List Given) (new : List ℕ) (x : ℕ) → x < length new → leafGiven x gs ≡ 1 → getD (fill gs new) x 0 ≡ given gs x
+fill-given : (gs : List Given) (new : List ℕ) (x : ℕ) → x < length new → leafGiven x gs ≡ 1 → getD (fill gs new) x 0 ≡ given gs x
 unfolding fill sumGiven given
 fill-given [] new x l h = absurd (omega arith)
 fill-given (g ∷ gs) new x l h =
@@ -131,7 +131,7 @@ getD-behind a old n i e h =
     ∙ ap (λ (j : ℕ). getD old j 0) y
 
 -- what is given to the leaves of a tree, stored, is the permutation, and the rest stays
-pub fill-new : {n : ℕ} {t : Tree} → LeavesBelow n t → (old : List ℕ) → n ≤ length old → fill (allGiven t) old ≡ newOf t ++ drop n old
+fill-new : {n : ℕ} {t : Tree} → LeavesBelow n t → (old : List ℕ) → n ≤ length old → fill (allGiven t) old ≡ newOf t ++ drop n old
 unfolding newOf
 fill-new {n} {t} b old h =
     ext-getD 0 (fill (allGiven t) old) (listed (size t) (given (allGiven t)) ++ drop n old)

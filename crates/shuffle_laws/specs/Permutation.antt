@@ -8,16 +8,16 @@ use mathlib.Core.Option.{none, Option·none-ne-some}
 use Prim.Native.Nat.{ℕ, zero, suc, _+_, _≤_, _<_}
 use native.Mathlib.Omega.{arith}
 use lib.Dec.{ltb}
-use lib.ListN.{length, getD, length-append}
+use lib.ListN.{length, getD}
 use borrow.Author.Tests.{eq-eqb, ne-eqb}
 use Rattle.rules.specs.Building.{member}
 use Rattle.rules.specs.Vector.{entry}
 use Rattle.rules.specs.Order.{listed}
 use Rattle.rules.specs.Shuffle.{permutationFault}
-use Rattle.merging.specs.Once.{hit, hit-same, hit-other}
 use Rattle.basics.specs.Cases.{by-lt, by-eq, by-test}
 use Rattle.basics.specs.Listed.{length-listed}
 use Rattle.basics.specs.Sums.{one, one-le, one-lt, one-ge, one-lt-below, sumBelow, sum-plus, sum-zero, sum-full}
+use Rattle.merging.specs.Once.{hit, hit-same, hit-other}
 use Rattle.shuffle_laws.specs.Count.{hit-le, sum-hit}
 
 -- how often y stands in the list
@@ -36,7 +36,7 @@ unfoldable pub room : ℕ → List ℕ → ℕ → ℕ
 unfolding one
 room n used y = one (ltb y n && not (member y used))
 
-pub room-used : (n x : ℕ) (used : List ℕ) → room n (x ∷ used) x ≡ 0
+room-used : (n x : ℕ) (used : List ℕ) → room n (x ∷ used) x ≡ 0
 unfolding room member one
 room-used n x used = rw (eq-eqb x x refl) (go (ltb x n))
   where
@@ -44,15 +44,15 @@ room-used n x used = rw (eq-eqb x x refl) (go (ltb x n))
     go true = refl
     go false = refl
 
-pub room-other : (n x y : ℕ) (used : List ℕ) → y ≢ x → room n (x ∷ used) y ≡ room n used y
+room-other : (n x y : ℕ) (used : List ℕ) → y ≢ x → room n (x ∷ used) y ≡ room n used y
 unfolding room member
 room-other n x y used d = rw (ne-eqb y x d)
 
-pub room-free : (n x : ℕ) (used : List ℕ) → ltb x n ≡ true → member x used ≡ false → room n used x ≡ 1
+room-free : (n x : ℕ) (used : List ℕ) → ltb x n ≡ true → member x used ≡ false → room n used x ≡ 1
 unfolding room one
 room-free n x used e f = rw (e, f)
 
-pub free-room : (n x : ℕ) (used : List ℕ) → 1 ≤ room n used x → (ltb x n ≡ true) × (member x used ≡ false)
+free-room : (n x : ℕ) (used : List ℕ) → 1 ≤ room n used x → (ltb x n ≡ true) × (member x used ≡ false)
 unfolding room one
 free-room n x used = go (ltb x n) (member x used)
   where
@@ -61,7 +61,7 @@ free-room n x used = go (ltb x n) (member x used)
     go true false h = (refl, refl)
     go false b h = absurd (omega arith)
 
-pub fault-room : (n i : ℕ) (used p : List ℕ) → permutationFault n i used p ≡ none → (y : ℕ) → occurs y p ≤ room n used y
+fault-room : (n i : ℕ) (used p : List ℕ) → permutationFault n i used p ≡ none → (y : ℕ) → occurs y p ≤ room n used y
 unfolding permutationFault occurs
 fault-room n i used [] e y = omega arith
 fault-room n i used (x ∷ p) e y =
@@ -74,7 +74,7 @@ fault-room n i used (x ∷ p) e y =
     (λ d. omega (arith, hit-other y x d, rest y, room-other n x y used d))))
     (λ q. absurd (Option·none-ne-some i (sym (rw q at e))))
 
-pub room-fault : (n i : ℕ) (used p : List ℕ) → ((y : ℕ) → occurs y p ≤ room n used y) → permutationFault n i used p ≡ none
+room-fault : (n i : ℕ) (used p : List ℕ) → ((y : ℕ) → occurs y p ≤ room n used y) → permutationFault n i used p ≡ none
 unfolding permutationFault occurs
 room-fault n i used [] h = refl
 room-fault n i used (x ∷ p) h =
@@ -85,7 +85,7 @@ room-fault n i used (x ∷ p) h =
     (λ s. rw s (omega (arith, h x, hit-same x x refl, room-free n x used (first .0) (first .1), room-used n x used)))
     (λ d. omega (arith, h y, hit-other y x d, room-other n x y used d))))
 
-pub sum-occurs : (n : ℕ) (p : List ℕ) → ((y : ℕ) → n ≤ y → occurs y p ≡ 0) → sumBelow (λ y. occurs y p) n ≡ length p
+sum-occurs : (n : ℕ) (p : List ℕ) → ((y : ℕ) → n ≤ y → occurs y p ≡ 0) → sumBelow (λ y. occurs y p) n ≡ length p
 unfolding occurs
 sum-occurs n [] h = sum-zero n
 sum-occurs n (x ∷ p) h =
@@ -99,7 +99,7 @@ sum-occurs n (x ∷ p) h =
     ))
     (λ l. absurd (omega (arith, h x l, hit-same x x refl)))
 
-pub room-all : (n y : ℕ) → room n [] y ≡ one (ltb y n)
+room-all : (n y : ℕ) → room n [] y ≡ one (ltb y n)
 unfolding room member one
 room-all n y = go (ltb y n)
   where
@@ -121,20 +121,20 @@ permutes n p e f =
 pub no-fault : {n : ℕ} {p : List ℕ} → Permutes n p → permutationFault n 0 [] p ≡ none
 no-fault {n} {p} P = room-fault n 0 [] p (λ y. omega (arith, P .each y, room-all n y))
 
-pub occurs-at : (p : List ℕ) (x : ℕ) → x < length p → 1 ≤ occurs (getD p x 0) p
+occurs-at : (p : List ℕ) (x : ℕ) → x < length p → 1 ≤ occurs (getD p x 0) p
 unfolding occurs
 occurs-at [] x h = absurd (omega arith)
 occurs-at (a ∷ p) zero h = omega (arith, hit-same a a refl)
 occurs-at (a ∷ p) (suc x) h = omega (arith, occurs-at p x (omega arith))
 
-pub occurs-place : (y : ℕ) (p : List ℕ) → 1 ≤ occurs y p → (x : ℕ) × (x < length p) × (getD p x 0 ≡ y)
+occurs-place : (y : ℕ) (p : List ℕ) → 1 ≤ occurs y p → (x : ℕ) × (x < length p) × (getD p x 0 ≡ y)
 unfolding occurs
 occurs-place y [] h = absurd (omega arith)
 occurs-place y (a ∷ p) h =
     by-eq y a (λ e. (0, omega arith, sym e))
     (λ d. let r = occurs-place y p (omega (arith, hit-other y a d)) in let l = r .1 in (suc (r .0), omega arith, r .2))
 
-pub same-place : (p : List ℕ) (x y : ℕ) → x < length p → y < length p → getD p x 0 ≡ getD p y 0 → occurs (getD p x 0) p ≤ 1 → x ≡ y
+same-place : (p : List ℕ) (x y : ℕ) → x < length p → y < length p → getD p x 0 ≡ getD p y 0 → occurs (getD p x 0) p ≤ 1 → x ≡ y
 unfolding occurs
 same-place [] x y h k e o = absurd (omega arith)
 same-place (a ∷ p) zero zero h k e o = refl
@@ -161,12 +161,12 @@ unfolding entry
 entry-onto {n} {p} P y h =
     let r = occurs-place y p (omega (arith, P .each y, one-lt y n h)) in let l = r .1 in (r .0, omega (arith, P .count), r .2)
 
-pub occurs-append : (y : ℕ) (p q : List ℕ) → occurs y (p ++ q) ≡ occurs y p + occurs y q
+occurs-append : (y : ℕ) (p q : List ℕ) → occurs y (p ++ q) ≡ occurs y p + occurs y q
 unfolding occurs
 occurs-append y [] q = omega arith
 occurs-append y (x ∷ p) q = omega (arith, occurs-append y p q)
 
-pub occurs-never : (n : ℕ) (f : ℕ → ℕ) (y : ℕ) → ((x : ℕ) → x < n → y ≢ f x) → occurs y (listed n f) ≡ 0
+occurs-never : (n : ℕ) (f : ℕ → ℕ) (y : ℕ) → ((x : ℕ) → x < n → y ≢ f x) → occurs y (listed n f) ≡ 0
 unfolding listed occurs
 occurs-never zero f y h = refl
 occurs-never (suc n) f y h =
@@ -177,7 +177,7 @@ occurs-never (suc n) f y h =
       hit-other y (f n) (h n (omega arith)),
     )
 
-pub occurs-once : (n : ℕ) (f : ℕ → ℕ) (y : ℕ) → ((x z : ℕ) → x < n → z < n → f x ≡ f z → x ≡ z) → occurs y (listed n f) ≤ 1
+occurs-once : (n : ℕ) (f : ℕ → ℕ) (y : ℕ) → ((x z : ℕ) → x < n → z < n → f x ≡ f z → x ≡ z) → occurs y (listed n f) ≤ 1
 unfolding listed occurs
 occurs-once zero f y h = omega arith
 occurs-once (suc n) f y h =

@@ -12,9 +12,9 @@ use Rattle.rules.specs.Vector.{entry}
 use Rattle.rules.specs.Tree.{Tree, leaf, node, has, Clade, LeavesBelow}
 use Rattle.rules.specs.Shuffle.{renamed}
 use Rattle.basics.specs.Bools.{both}
-use Rattle.merging.specs.Once.{hit-same, hit-other}
 use Rattle.basics.specs.Cases.{by-lt, by-eq}
 use Rattle.basics.specs.Sums.{one-lt, one-ge}
+use Rattle.merging.specs.Once.{hit-same, hit-other}
 use Rattle.shuffle_laws.specs.Count.{leafTimes, has-times, times-has, below-times, times-below}
 use Rattle.shuffle_laws.specs.Permutation.{Permutes, entry-below, entry-injective, entry-onto}
 
@@ -22,23 +22,23 @@ use Rattle.shuffle_laws.specs.Permutation.{Permutes, entry-below, entry-
 unfoldable pub Within : ℕ → Tree → Type 0
 Within n t = (x : ℕ) → n ≤ x → leafTimes x t ≡ 0
 
-pub within-left : (n : ℕ) (l r : Tree) → Within n (node l r) → Within n l
+within-left : (n : ℕ) (l r : Tree) → Within n (node l r) → Within n l
 unfolding Within leafTimes
 within-left n l r h x k = omega (arith, h x k)
 
-pub within-right : (n : ℕ) (l r : Tree) → Within n (node l r) → Within n r
+within-right : (n : ℕ) (l r : Tree) → Within n (node l r) → Within n r
 unfolding Within leafTimes
 within-right n l r h x k = omega (arith, h x k)
 
-pub within-leaf : (n y : ℕ) → Within n (leaf y) → y < n
+within-leaf : (n y : ℕ) → Within n (leaf y) → y < n
 unfolding Within leafTimes
 within-leaf n y h = by-lt y n (λ l. l) (λ k. absurd (omega (arith, h y k, hit-same y y refl)))
 
-pub below-within : {n : ℕ} {t : Tree} → LeavesBelow n t → Within n t
+below-within : {n : ℕ} {t : Tree} → LeavesBelow n t → Within n t
 unfolding Within
 below-within {n} b x k = omega (arith, below-times b x, one-ge x n k)
 
-pub has-counted : (t : Tree) (x : ℕ) → has t x ≡ ltb 0 (leafTimes x t)
+has-counted : (t : Tree) (x : ℕ) → has t x ≡ ltb 0 (leafTimes x t)
 has-counted t x =
     both (has t x) (ltb 0 (leafTimes x t)) (λ e. lt-ltb 0 (leafTimes x t) (has-times x t e)) (λ e. times-has x t (ltb-true 0 (leafTimes x t) e))
 

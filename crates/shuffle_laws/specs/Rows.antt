@@ -1,18 +1,17 @@
 -- The rows of a table with renamed leaves.
 -- Main definitions: renamedChild, renamedRow, renamedRows. Main results: renamed-fault, renamed-tree, renamed-rows.
-use mathlib.Core.Path.{_≡_, refl, sym, ap, ap₂, _∙_}
-use mathlib.Core.Bool.{Bool, true, false, not, _||_, cond}
+use mathlib.Core.Path.{_≡_, refl, sym, ap, _∙_}
+use mathlib.Core.Bool.{Bool, false, _||_, cond}
 use mathlib.Core.List.{List, [], _∷_, map}
-use mathlib.Core.Option.{Option, none, some, Option·none-ne-some}
+use mathlib.Core.Option.{none}
 use Prim.Native.Nat.{ℕ, zero, suc, _+_, _-_, _≤_, _<_}
 use native.Mathlib.Omega.{arith}
 use lib.Dec.{eqb, ltb}
 use lib.ListN.{length, getD, length-map}
-use borrow.Author.Tests.{ltb-true, lt-ltb, le-ltb, eqb-true, eq-eqb, ne-eqb}
+use borrow.Author.Tests.{lt-ltb, le-ltb, eq-eqb, ne-eqb}
 use Rattle.rules.specs.Vector.{entry}
-use Rattle.rules.specs.Building.{Merge}
-use Rattle.rules.specs.Tree.{Tree, leaf, node, least, Clusters, joined, grown}
-use Rattle.rules.specs.Table.{Row, Fault, childrenBelow, namedTwice, rowFault, tableFault, nodesOf, tableTree}
+use Rattle.rules.specs.Tree.{leaf, Clusters}
+use Rattle.rules.specs.Table.{Row, childrenBelow, namedTwice, rowFault, tableFault, nodesOf, tableTree}
 use Rattle.rules.specs.Shuffle.{renamed, permutationFault}
 use Rattle.basics.specs.Cases.{by-lt, by-eq}
 use Rattle.table_laws.specs.Nodes.{noded, Stands, accepted-stands}

@@ -1,5 +1,5 @@
 -- The shuffled tree: each node in the queue has the least new leaf that is its label, and the pairs fall. So its vector is ordered.
--- Main definitions: relabelled, Fits. Main results: taken-fits, shuffled-falls, shuffled-down, shuffled-length, shuffled-ordered.
+-- Main definitions: relabelled, Fits. Main results: taken-fits, shuffled-falls, shuffled-down, shuffled-ordered.
 use mathlib.Core.Path.{_≡_, refl, sym, ap, ap₂, _∙_}
 use mathlib.Core.Logic.{_≢_}
 use mathlib.Core.Bool.{Bool, true, false, cond}
@@ -7,18 +7,15 @@ use mathlib.Core.List.{List, [], _∷_, _++_}
 use Prim.Native.Nat.{ℕ, zero, suc, _+_, _-_, _*_, _≤_, _<_, max}
 use native.Mathlib.Omega.{arith}
 use lib.Dec.{ltb}
-use lib.ListN.{length, getD, List·getD-append}
-use lib.Seq.{getD-at}
 use borrow.Author.Tests.{eq-eqb, ne-eqb}
 use Rattle.rules.specs.Vector.{entry}
 use Rattle.rules.specs.Tree.{Tree, leaf, node, least, size, LeavesBelow}
-use Rattle.rules.specs.Order.{order, entryAt, listed, vectorOf}
+use Rattle.rules.specs.Order.{order, entryAt, vectorOf}
 use Rattle.rules.specs.Shuffle.{renamed, Queue, Given, behind, taken, given, newOf}
-use Rattle.merging.specs.Once.{hit-same}
-use Rattle.basics.specs.Listed.{length-listed, listed-at}
-use Rattle.basics.specs.Cases.{by-eq}
+use Rattle.basics.specs.Listed.{listed-at}
 use Rattle.basics.specs.Sums.{one-le, one-lt-below}
 use Rattle.clades.specs.Size.{size-below}
+use Rattle.merging.specs.Once.{hit-same}
 use Rattle.shuffle_laws.specs.Count.{leafTimes, below-times}
 use Rattle.shuffle_laws.specs.Taken.{nodes, nodesIn, weigh, weigh-append, weigh-behind, nodes-behind, nodes-inner, size-inner, allGiven, new-permutes}
 use Rattle.shuffle_laws.specs.Renaming.{renamed-below}
@@ -29,12 +26,12 @@ unfoldable pub relabelled : (ℕ → ℕ) → Tree → Tree
 relabelled f (leaf x) = leaf (f x)
 relabelled f (node l r) = node (relabelled f l) (relabelled f r)
 
-pub relabelled-renamed : (p : List ℕ) (t : Tree) → relabelled (entry p) t ≡ renamed p t
+relabelled-renamed : (p : List ℕ) (t : Tree) → relabelled (entry p) t ≡ renamed p t
 unfolding relabelled renamed
 relabelled-renamed p (leaf x) = refl
 relabelled-renamed p (node l r) = ap₂ node (relabelled-renamed p l) (relabelled-renamed p r)
 
-pub relabelled-cong : (f g : ℕ → ℕ) (t : Tree) → ((x : ℕ) → 1 ≤ leafTimes x t → f x ≡ g x) → relabelled f t ≡ relabelled g t
+relabelled-cong : (f g : ℕ → ℕ) (t : Tree) → ((x : ℕ) → 1 ≤ leafTimes x t → f x ≡ g x) → relabelled f t ≡ relabelled g t
 unfolding relabelled leafTimes
 relabelled-cong f g (leaf y) h = ap leaf (h y (omega (arith, hit-same y y refl)))
 relabelled-cong f g (node l r) h =
@@ -54,7 +51,7 @@ Labels next [] = Unit {0}
 Labels next (e ∷ q) = (e .1 < next) × Labels next q
 
 -- how often x is a leaf under the queue
-abbrev pub leavesIn : ℕ → Queue → ℕ
+abbrev leavesIn : ℕ → Queue → ℕ
 leavesIn x = weigh (leafTimes x) (λ b. 0)
 
 fits-down : (f : ℕ → ℕ) (next : ℕ) (q : Queue) → AllFit f (next + 1) q → AllFit f next q
@@ -162,7 +159,7 @@ new-entry : (t : Tree) (x : ℕ) → x < size t → entry (newOf t) x ≡ given 
 unfolding entry newOf
 new-entry t x h = listed-at (size t) (given (allGiven t)) x h
 
-pub renamed-new : {n : ℕ} {t : Tree} → LeavesBelow n t → renamed (newOf t) t ≡ relabelled (given (allGiven t)) t
+renamed-new : {n : ℕ} {t : Tree} → LeavesBelow n t → renamed (newOf t) t ≡ relabelled (given (allGiven t)) t
 renamed-new {n} {t} b =
     sym (relabelled-renamed (newOf t) t)
     ∙ relabelled-cong (entry (newOf t)) (given (allGiven t)) t
@@ -185,11 +182,6 @@ shuffled-down {n} {t} b =
     rw (size-below _ _ c)
     (ordered-down (n - 1) 1 (renamed (newOf t) t) (rw (renamed-new b) (shuffled-falls b .1))
     (λ x. rw m ((rw z at (tops-leaves x (renamed (newOf t) t))) ∙ below-times c x)))
-
-pub shuffled-length : {n : ℕ} {t : Tree} → LeavesBelow n t → length (vectorOf (renamed (newOf t) t)) ≡ n
-unfolding vectorOf
-shuffled-length {n} {t} b =
-    length-listed (size (renamed (newOf t) t)) (entryAt (order (renamed (newOf t) t))) ∙ size-below _ _ (renamed-below (new-permutes b) b)
 
 -- The shuffled vector is ordered: v(i) < i for all i >= 1.
 pub shuffled-ordered : {n : ℕ} {t : Tree} → LeavesBelow n t → (i : ℕ) → 1 ≤ i → i < n → entry (vectorOf (renamed (newOf t) t)) i < i

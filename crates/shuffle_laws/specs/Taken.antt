@@ -14,10 +14,10 @@ use borrow.Author.Tests.{eq-eqb, ne-eqb}
 use Rattle.rules.specs.Tree.{Tree, leaf, node, least, size, LeavesBelow}
 use Rattle.rules.specs.Order.{listed}
 use Rattle.rules.specs.Shuffle.{permutationFault, Queue, Given, behind, taken, given, newOf}
-use Rattle.merging.specs.Once.{hit, hit-same, hit-other}
-use Rattle.basics.specs.Cases.{by-lt, by-eq}
+use Rattle.basics.specs.Cases.{by-eq}
 use Rattle.basics.specs.Sums.{one, one-le, one-lt, one-ge, one-lt-below}
 use Rattle.clades.specs.Size.{size-below}
+use Rattle.merging.specs.Once.{hit, hit-same, hit-other}
 use Rattle.shuffle_laws.specs.Count.{one-more, leafTimes, below-times}
 use Rattle.shuffle_laws.specs.Permutation.{Permutes, no-fault, one-to-one}
 
@@ -45,12 +45,12 @@ unfoldable pub spread : (ℕ → ℕ) → Tree → ℕ
 spread u (leaf x) = u x
 spread u (node l r) = spread u l + spread u r
 
-pub spread-hit : (x : ℕ) (t : Tree) → spread (hit x) t ≡ leafTimes x t
+spread-hit : (x : ℕ) (t : Tree) → spread (hit x) t ≡ leafTimes x t
 unfolding spread leafTimes
 spread-hit x (leaf y) = refl
 spread-hit x (node l r) = omega (arith, spread-hit x l, spread-hit x r)
 
-pub spread-zero : (t : Tree) → spread (λ x. 0) t ≡ 0
+spread-zero : (t : Tree) → spread (λ x. 0) t ≡ 0
 unfolding spread
 spread-zero (leaf y) = refl
 spread-zero (node l r) = omega (arith, spread-zero l, spread-zero r)
@@ -117,12 +117,12 @@ taken-sum u w (suc k) next ((node l r, b) ∷ q) h =
       weigh-behind (spread u) w l r b next,
     ))
 
-pub run-zero : (next k : ℕ) → run (λ b. 0) next k ≡ 0
+run-zero : (next k : ℕ) → run (λ b. 0) next k ≡ 0
 unfolding run
 run-zero next zero = refl
 run-zero next (suc k) = omega (arith, run-zero (next + 1) k)
 
-pub run-hit : (b next k : ℕ) → one (ltb b next) + run (hit b) next k ≡ one (ltb b (next + k))
+run-hit : (b next k : ℕ) → one (ltb b next) + run (hit b) next k ≡ one (ltb b (next + k))
 unfolding run
 run-hit b next zero = let z : next + 0 ≡ next = omega arith in rw z (omega arith)
 run-hit b next (suc k) =
@@ -134,10 +134,10 @@ run-hit b next (suc k) =
 abbrev pub leafGiven : ℕ → List Given → ℕ
 leafGiven x = sumGiven (hit x) (λ b. 0)
 
-abbrev pub labelGiven : ℕ → List Given → ℕ
+abbrev labelGiven : ℕ → List Given → ℕ
 labelGiven b = sumGiven (λ x. 0) (hit b)
 
-pub leaf-label : (x : ℕ) (gs : List Given) → 1 ≤ leafGiven x gs → 1 ≤ labelGiven (given gs x) gs
+leaf-label : (x : ℕ) (gs : List Given) → 1 ≤ leafGiven x gs → 1 ≤ labelGiven (given gs x) gs
 unfolding sumGiven given
 leaf-label x [] h = h
 leaf-label x (g ∷ gs) h =
@@ -145,7 +145,7 @@ leaf-label x (g ∷ gs) h =
     (λ e. rw (eq-eqb x (g .0) e) (omega (arith, hit-same (g .1) (g .1) refl)))
     (λ d. rw (ne-eqb x (g .0) d) (omega (arith, hit-other x (g .0) d, leaf-label x gs (omega (arith, hit-other x (g .0) d)))))
 
-pub leaves-label : (x y : ℕ) (gs : List Given) → x ≢ y → 1 ≤ leafGiven x gs → 1 ≤ leafGiven y gs → given gs x ≡ given gs y
+leaves-label : (x y : ℕ) (gs : List Given) → x ≢ y → 1 ≤ leafGiven x gs → 1 ≤ leafGiven y gs → given gs x ≡ given gs y
     → 2 ≤ labelGiven (given gs x) gs
 unfolding sumGiven given
 leaves-label x y [] d h k e = absurd (omega arith)

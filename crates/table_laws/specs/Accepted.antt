@@ -1,19 +1,17 @@
 -- A table that is written is accepted when it is read.
 -- Main definition: Fresh. Main results: rows-accepted, table-accepted, pairs-accepted, pairs-below.
 use mathlib.Core.Path.{_≡_, refl, sym, _∙_}
-use mathlib.Core.Logic.{⊎-elim}
-use mathlib.Core.Bool.{Bool, true, false, not, _&&_, _||_, cond, true≢false}
+use mathlib.Core.Bool.{Bool, true, false, _||_, cond}
 use mathlib.Core.List.{List, [], _∷_}
-use mathlib.Core.Option.{Option, none, some, Option·some-ne-none}
-use Prim.Native.Nat.{ℕ, zero, suc, _+_, _-_, _≤_, _<_}
+use mathlib.Core.Option.{none}
+use Prim.Native.Nat.{ℕ, _+_, _-_, _≤_, _<_}
 use native.Mathlib.Omega.{arith}
-use lib.Dec.{eqb, ltb}
+use lib.Dec.{eqb}
 use lib.ListN.{length, getD}
-use borrow.Author.Tests.{ltb-true, eqb-true, eqb-false, eq-eqb, ne-eqb, lt-ltb}
+use borrow.Author.Tests.{eqb-true, eqb-false, eq-eqb, ne-eqb, lt-ltb}
 use Rattle.rules.specs.Vector.{entry, Valid}
 use Rattle.rules.specs.Building.{Merge}
-use Rattle.rules.specs.Table.{Row, Fault, rowsFrom, rowFault, tableFault, childrenBelow, namedTwice}
-use Rattle.basics.specs.Bools.{and-left, and-right, or-cases, or-left, or-right}
+use Rattle.rules.specs.Table.{rowsFrom, rowFault, tableFault, childrenBelow, namedTwice}
 use Rattle.merging.specs.Insertion.{valid-bounded, pairsOf, pairs, pairs-count}
 use Rattle.merging.specs.Greedy.{Under, under-pairs}
 use Rattle.merging.specs.Named.{named, Good, good}

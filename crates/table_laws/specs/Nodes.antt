@@ -51,7 +51,7 @@ unfoldable pub Stands : ℕ → List Row → Type 0
 Stands p [] = Unit {0}
 Stands p (r ∷ rs) = (r .2 ≡ p) × (r .0 < p) × (r .1 < p) × Stands (p + 1) rs
 
-pub stands-count-up : (p : ℕ) (rs : List Row) → Stands p rs → CountUp p rs
+stands-count-up : (p : ℕ) (rs : List Row) → Stands p rs → CountUp p rs
 unfolding Stands CountUp
 stands-count-up p [] s = tt
 stands-count-up p (r ∷ rs) s = (s .0, stands-count-up (p + 1) rs (s .3))

@@ -1,5 +1,5 @@
 -- The rows of merges: a row for each, whose parents count up.
--- Main definitions: first, second, renumber, Inside. Main results: rows-length, table-length, parent-at, rows-count-up, tied-rows, rows-cong.
+-- Main definitions: first, second, renumber, Inside. Main results: rows-length, table-length, parent-at, tied-rows, rows-cong.
 use mathlib.Core.Path.{_≡_, refl, sym, ap, ap₂, _∙_}
 use mathlib.Core.Bool.{Bool, true, false, cond}
 use mathlib.Core.List.{List, [], _∷_, map}

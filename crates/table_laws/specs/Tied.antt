@@ -1,14 +1,13 @@
 -- Rows given by their children alone, and the trees of their nodes.
 -- Main definitions: tied, treeAt, wholeTree. Main results: tied-length, tied-at, tree-leaf, tree-pair, tree-whole.
-use mathlib.Core.Path.{_≡_, refl, ap, ap₂, sym, subst, _∙_}
-use mathlib.Core.Bool.{Bool, true, false, cond}
-use mathlib.Core.List.{List, [], _∷_, _++_}
-use Prim.Native.Nat.{ℕ, zero, suc, _+_, _-_, _*_, _≤_, _<_}
+use mathlib.Core.Path.{_≡_, refl, ap, ap₂, sym, _∙_}
+use mathlib.Core.List.{List, [], _∷_}
+use Prim.Native.Nat.{ℕ, zero, suc, _+_, _-_, _≤_, _<_}
 use native.Mathlib.Omega.{arith}
 use native.Mathlib.Nat.{add-zero}
 use lib.ListN.{length, getD, take, length-take}
 use lib.Seq.{getD-take}
-use Rattle.rules.specs.Tree.{Tree, leaf, node, Clusters}
+use Rattle.rules.specs.Tree.{Tree, leaf, node}
 use Rattle.rules.specs.Table.{Row, nodesOf, tableTree}
 use Rattle.table_laws.specs.Nodes.{CountUp, nodes-keep, nodes-row}
 

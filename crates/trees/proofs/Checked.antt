@@ -1,5 +1,5 @@
 -- What the check of a vector answers, and what a call that begins from a vector may then say.
--- Main results: empty-refused, large-refused, fault-refused, passes; refused-alike, goes-on, checked-valid.
+-- Main definitions: Seen, Alike, Sound. Main results: empty-refused, large-refused, fault-refused, passes; refused-alike, checked-sound, sound-made.
 use mathlib.Core.Bool.{Bool, true, false}
 use mathlib.Core.List.{List, []}
 use mathlib.Core.Option.{Option, none, some}

@@ -1,5 +1,5 @@
 -- What pack makes of a sound vector, and what unpack answers at each of its ends.
--- Main results: record-made; refused-early, headed-of, length-fails, entry-fails, padding-fails, record-made-of.
+-- Main results: record-made; refused-early, headed-of, length-fails.
 use mathlib.Core.List.{List, _++_}
 use mathlib.Core.Logic.{_≢_}
 use mathlib.Core.Option.{none, some}

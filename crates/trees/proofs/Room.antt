@@ -1,5 +1,5 @@
 -- The end of every call: 3 where the room is short, else done with the elements written.
--- Main results: Short, short-room; Full, full-room.
+-- Main definition: Meets. Main results: short-room, full-room.
 use mathlib.Core.List.{List, _++_}
 use mathlib.Core.Path.{_≡_, refl, sym, ap, _∙_}
 use Prim.Native.Nat.{ℕ, _≤_, _<_}

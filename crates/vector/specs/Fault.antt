@@ -1,6 +1,6 @@
 -- The first entry above its bound, as a number.
 -- Main definition: firstFault.
--- Main results: no-fault-valid, valid-no-fault, first-fault-none, first-fault-some, fault-inside, fault-above, all-within.
+-- Main results: no-fault-valid, valid-no-fault, first-fault-none, first-fault-some, fault-inside, all-within.
 use mathlib.Core.Path.{_≡_, refl, _∙_}
 use mathlib.Core.Bool.{Bool, true, false, cond}
 use mathlib.Core.List.{List, [], _∷_}
@@ -11,7 +11,7 @@ use native.Mathlib.Omega.{arith}
 use lib.Dec.{eqb, ltb}
 use lib.ListN.{length, getD, drop}
 use lib.Seq.{drop-cons, drop-length}
-use borrow.Author.Tests.{eqb-true, eqb-false, ltb-true, ltb-false, lt-ltb, le-ltb}
+use borrow.Author.Tests.{eqb-true, eqb-false, ltb-false, lt-ltb, le-ltb}
 use Rattle.rules.specs.Vector.{entry, bound, Valid, fault}
 
 -- the number of the first entry above its bound, and the number of entries where there is none
@@ -27,21 +27,6 @@ fault-inside i (x ∷ v) p e = go (ltb (bound i) x) (fault-inside (i + 1) v p) e
     go : (b : Bool) → (fault (i + 1) v ≡ some p → (i + 1 ≤ p) × (p < i + 1 + length v)) → cond b (some i) (fault (i + 1) v) ≡ some p → (i ≤ p) × (p < i + suc (length v))
     go true ih q = let z : i ≡ p = Option·some-injective i p q in (omega arith, omega arith)
     go false ih q = let z = ih q in (omega arith, omega arith)
-
--- an entry above its bound
-pub fault-above : (i : ℕ) (v : List ℕ) (p : ℕ) → fault i v ≡ some p → bound p < entry v (p - i)
-unfolding fault entry
-fault-above i [] p e = absurd (Option·none-ne-some p e)
-fault-above i (x ∷ v) p e = go (ltb (bound i) x) refl (fault-inside (i + 1) v p) (fault-above (i + 1) v p) e
-  where
-    go : (b : Bool) → ltb (bound i) x ≡ b → (fault (i + 1) v ≡ some p → (i + 1 ≤ p) × (p < i + 1 + length v))
-        → (fault (i + 1) v ≡ some p → bound p < getD v (p - (i + 1)) 0)
-        → cond b (some i) (fault (i + 1) v) ≡ some p → bound p < getD (x ∷ v) (p - i) 0
-    go true t l ih q =
-        let z : i ≡ p = Option·some-injective i p q in
-        let k : p - i ≡ 0 = omega arith in
-        rw (k, ← z) (ltb-true (bound i) x t)
-    go false t l ih q = let m = l q in let k : p - i ≡ suc (p - (i + 1)) = omega arith in rw k (ih q)
 
 -- where there is no fault each entry is within its bound
 pub no-fault-bounded : (i : ℕ) (v : List ℕ) → fault i v ≡ none → (k : ℕ) → k < length v → entry v k ≤ bound (i + k)

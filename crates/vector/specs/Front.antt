@@ -1,11 +1,11 @@
 -- A list overwritten from the front.
--- Main definition: mix. Main results: mix-start, mix-step, mix-down, mix-end, mix-at.
+-- Main definition: mix. Main results: mix-start, mix-step, mix-down, mix-length, mix-above, mix-below.
 use mathlib.Core.Path.{_≡_, refl, sym, ap, _∙_}
 use mathlib.Core.List.{List, [], _∷_, _++_, append-assoc}
 use Prim.Native.Nat.{ℕ, zero, suc, _+_, _≤_, _<_}
 use native.Mathlib.Numerals.{add-one}
 use native.Mathlib.Omega.{arith}
-use lib.ListN.{length, take, drop, getD, set, length-append, length-take, length-drop, take-append-drop}
+use lib.ListN.{length, take, drop, getD, set, length-append, length-take, length-drop}
 use lib.Seq.{take-suc, drop-cons, set-at, length-take-le, drop-nil}
 
 -- b's first k elements, then o's others
@@ -15,10 +15,6 @@ mix k b o = take k b ++ drop k o
 pub mix-start : (b o : List ℕ) → o ≡ mix 0 b o
 unfolding mix
 mix-start b o = refl
-
-pub mix-same : (k : ℕ) (o : List ℕ) → mix k o o ≡ o
-unfolding mix
-mix-same k o = take-append-drop k o
 
 -- one more element of b, after those before it
 pub mix-step : (b o : List ℕ) (k : ℕ) → k < length b → k < length o → set (mix k b o) k (getD b k 0) ≡ mix (k + 1) b o
