@@ -1,4 +1,5 @@
 pub mod Bools
 pub mod Cases
+pub mod Fault
 pub mod Listed
 pub mod Sums

@@ -3,6 +3,5 @@ pub mod Next
 pub mod Built
 pub mod Going
 pub mod Entry
-pub mod Without
-pub mod Backwards
+pub mod InOrder
 pub mod Shortened

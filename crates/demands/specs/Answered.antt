@@ -13,6 +13,7 @@ use Rattle.rules.specs.declared.Kind.the-variants.{Room}
 use Rattle.rules.specs.declared.Answer.{Answer}
 use Rattle.rules.specs.declared.Answer.the-variants.{Done, Refused}
 use Rattle.rules.specs.Answer.{done, refused, reads, Made, made, refuses, answer, after}
+use Rattle.laws.specs.Answers.{done-same, done-not-refused}
 use Rattle.demands.specs.Settled.{Settled}
 
 -- nothing is wrong with the input
@@ -28,12 +29,6 @@ made-not-refuses e = let z : _≡_ {A = ℕ} 0 1 = cc in omega arith
 
 refused-same : {k p l q : ℕ} → refused k p ≡ refused l q → (k ≡ l) × (p ≡ q)
 refused-same e = (cc, cc)
-
-pub done-same : {k l : ℕ} → done k ≡ done l → k ≡ l
-done-same e = cc
-
-pub done-not-refused : {n k p : ℕ} → done n ≡ refused k p → ⊥
-done-not-refused e = let z : _≡_ {A = ℕ} 0 1 = cc in omega arith
 
 -- where there is room, and where there is not
 pub enough : (xs : List ℕ) (room : ℕ) → length xs ≤ room → answer (made xs) room ≡ done (length xs)
@@ -74,7 +69,7 @@ module _ (Refusal : ℕ → ℕ → Type 0) (wanted : ℕ) (m : Made) (S : Settl
           reading = ap (λ (x : Made). answer x room) (sym (y .1)) ∙ e
 
           at : (length (y .0) ≤ room) ⊎ (room < length (y .0)) → GivenFor Refusal wanted room k p
-          at (inl h) = absurd (done-not-refused (sym (enough (y .0) room h) ∙ reading))
+          at (inl h) = absurd (done-not-refused _ _ _ (sym (enough (y .0) room h) ∙ reading))
           at (inr h) =
               let s = refused-same (sym (short (y .0) room h) ∙ reading) in
               let w = y .2 in
@@ -98,7 +93,7 @@ module _ (Refusal : ℕ → ℕ → Type 0) (wanted : ℕ) (m : Made) (S : Settl
     where
       go : answer m room ≡ done k → ((l : ℕ) × (q : ℕ) × Refusal l q) ⊎ ((xs : List ℕ) × (m ≡ made xs) × (length xs ≡ wanted))
           → Accepted Refusal × (k ≡ wanted) × (wanted ≤ room)
-      go e (inl r) = absurd (done-not-refused (sym e ∙ refused-answer (r .0) (r .1) (r .2)))
+      go e (inl r) = absurd (done-not-refused _ _ _ (sym e ∙ refused-answer (r .0) (r .1) (r .2)))
       go e (inr y) = at (room-cases (length (y .0)) room)
         where
           reading : answer (made (y .0)) room ≡ done k
@@ -109,7 +104,7 @@ module _ (Refusal : ℕ → ℕ → Type 0) (wanted : ℕ) (m : Made) (S : Settl
               let w = y .2 in
               let d : length (y .0) ≡ k = done-same (sym (enough (y .0) room h) ∙ reading) in
               (made-accepted (y .0) (y .1), omega arith, omega arith)
-          at (inr h) = absurd (done-not-refused (sym reading ∙ short (y .0) room h))
+          at (inr h) = absurd (done-not-refused _ _ _ (sym reading ∙ short (y .0) room h))
 
       back : Accepted Refusal × (k ≡ wanted) × (wanted ≤ room) → ((l : ℕ) × (q : ℕ) × Refusal l q) ⊎ ((xs : List ℕ) × (m ≡ made xs) × (length xs ≡ wanted))
           → answer m room ≡ done k
@@ -158,12 +153,12 @@ same-answer Refusal wanted m n S T room = go (T .total)
 -- what is made where the answer is done
 pub done-made : (m : Made) (room k : ℕ) → answer m room ≡ done k → (xs : List ℕ) × (m ≡ made xs) × (length xs ≤ room)
 unfolding answer
-done-made (refuses l q) room k e = absurd (done-not-refused (sym e))
+done-made (refuses l q) room k e = absurd (done-not-refused _ _ _ (sym e))
 done-made (made xs) room k e = go (room-cases (length xs) room)
   where
     go : (length xs ≤ room) ⊎ (room < length xs) → (ys : List ℕ) × (made xs ≡ made ys) × (length ys ≤ room)
     go (inl h) = (xs, refl, h)
-    go (inr h) = absurd (done-not-refused (sym e ∙ short xs room h))
+    go (inr h) = absurd (done-not-refused _ _ _ (sym e ∙ short xs room h))
 
 -- "A refusal writes nothing."
 pub unchanged : (m : Made) (room k p : ℕ) (old : List ℕ) → answer m room ≡ refused k p → after m room old ≡ old
@@ -172,7 +167,7 @@ unchanged (refuses l q) room k p old e = refl
 unchanged (made xs) room k p old e = go (leb (length xs) room) refl e
   where
     go : (b : Bool) → leb (length xs) room ≡ b → cond b (done (length xs)) (refused 3 (length xs)) ≡ refused k p → cond b (xs ++ drop (length xs) old) old ≡ old
-    go true q e = absurd (done-not-refused e)
+    go true q e = absurd (done-not-refused _ _ _ e)
     go false q e = refl
 
 -- "Elements past those written keep their old values."

@@ -18,7 +18,7 @@ use Rattle.rules.specs.Newick.{textOf, Text, labelsOf, labelFault}
 use Rattle.rules.specs.Record.{recordOf}
 use Rattle.rules.specs.Answer.{done, reads, Made, made, answer, after}
 use Rattle.rules.specs.Calls.{fromVector, check, toTable, fromTable, toText, FromText, reads-as, pack, unpack}
-use Rattle.building.specs.Backwards.{merges-in-order}
+use Rattle.building.specs.InOrder.{merges-in-order}
 use Rattle.building.specs.Built.{merges-length}
 use Rattle.table_laws.specs.Flat.{rowsOf-flat}
 use Rattle.table_laws.specs.Accepted.{table-accepted}

@@ -14,8 +14,8 @@ use Rattle.rules.specs.declared.Answer.the-variants.{Done, Refused}
 use Rattle.rules.specs.Table.{tableOf}
 use Rattle.rules.specs.Answer.{done, reads, Made, answer, after}
 use Rattle.rules.specs.Calls.{check, pack, unpack}
+use Rattle.laws.specs.Answers.{done-not-refused, done-same}
 use Rattle.demands.specs.Promise.{Call, one, checks, vector-to-table, packs, unpacks, Lent, Promise}
-use Rattle.demands.specs.Answered.{done-not-refused, done-same}
 use Rattle.demands.specs.DemandOne.{wanted, done-exactly, every-input-answered, promise-unique}
 use Rattle.demands.specs.DemandTwo.{Vector, demand-two}
 
@@ -33,7 +33,7 @@ unfolding reads answer check
 not-refuse-everything library refuses keeps =
     let P = keeps (checks (0 ∷ [])) tt in
     let r = refuses (checks (0 ∷ [])) tt in
-    done-not-refused (sym (P .answers ∙ ap (λ (m : Made). answer m 0) (P .makes)) ∙ ap reads (r .1))
+    done-not-refused _ _ _ (sym (P .answers ∙ ap (λ (m : Made). answer m 0) (P .makes)) ∙ ap reads (r .1))
 
 -- "One fixed vector for all", whatever the vector: records 00 20 and 00 40 give 0 and 0,0
 pub not-one-vector : (library : Library) (w : List ℕ) → ((s old : List ℕ) → library (one (unpacks s)) old .1 ≡ w ++ drop (length w) old) → Keeps library → ⊥

@@ -14,8 +14,8 @@ use Rattle.rules.specs.Tree.{leaf, node, Clusters, grown, has}
 use Rattle.clades.specs.Leaves.{Inside}
 use Rattle.merging.specs.Once.{times}
 use Rattle.merging.specs.Greedy.{Greedy}
-use Rattle.merging.specs.Named.{Good, Rising}
-use Rattle.merging.specs.Names.{smaller-named, larger-named, rest-there, there-rest, good-rest, rising-rest, greedy-rest}
+use Rattle.merging.specs.Named.{Good, Rising, smaller-named, larger-named}
+use Rattle.merging.specs.Rest.{rest-there, there-rest, good-rest, rising-rest, greedy-rest}
 use Rattle.growing.specs.Grown.{filled, grown-filled, grown-graft, grown-append, grown-keeps, has-grown, distinct-grown}
 use Rattle.growing.specs.Ready.{Ready, Greatest}
 use Rattle.growing.specs.Fact1.{after, fact-1-grown}

@@ -14,8 +14,7 @@ use Rattle.rules.specs.Tree.{Tree, leaf, node, grown, Distinct, LeavesBelow}
 use Rattle.rules.specs.Order.{best, collapse, order}
 use Rattle.merging.specs.Insertion.{pairs, Bounded}
 use Rattle.merging.specs.Greedy.{Greedy, greedy}
-use Rattle.merging.specs.Named.{Good, Rising, good, rising}
-use Rattle.merging.specs.Names.{pairs-named}
+use Rattle.merging.specs.Named.{Good, Rising, good, rising, pairs-named}
 use Rattle.growing.specs.Grown.{distinct-grown, grown-below}
 use Rattle.growing.specs.Ready.{Ready, Greatest, best-greatest, ready-has}
 use Rattle.growing.specs.Collapse.{open-left, open-right}

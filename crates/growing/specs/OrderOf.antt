@@ -21,8 +21,7 @@ use Rattle.clades.specs.Size.{size-some}
 use Rattle.clades.specs.Form.{form, clades-up-to-turning}
 use Rattle.merging.specs.Once.{times}
 use Rattle.merging.specs.Greedy.{touch, free, Ahead, Greedy, Under}
-use Rattle.merging.specs.Named.{named, Good, Rising}
-use Rattle.merging.specs.Names.{named-times, under-named}
+use Rattle.merging.specs.Named.{named, Good, Rising, named-times, under-named}
 use Rattle.growing.specs.Grown.{graft, grown-graft, has-grown, size-grown}
 use Rattle.growing.specs.Ready.{Ready, Greatest, best-greatest, best-is, best-some, ready-has, ready-rising}
 use Rattle.growing.specs.Collapse.{Collapsed, collapsed, collapsed-has, collapsed-least, collapsed-size, Clear, ready-before}

@@ -15,8 +15,7 @@ use Rattle.clades.specs.Pruned.{beside, pruned, pruned-twice, pruned-all}
 use Rattle.merging.specs.Insertion.{pairsOf, Bounded}
 use Rattle.merging.specs.Once.{without, without-insert, never, fits}
 use Rattle.merging.specs.Greedy.{Under, under-pairs}
-use Rattle.merging.specs.Named.{named, Good, Rising, good, rising}
-use Rattle.merging.specs.Names.{under-unnamed, pairs-named}
+use Rattle.merging.specs.Named.{named, Good, Rising, good, rising, under-unnamed, pairs-named}
 use Rattle.growing.specs.Grown.{graft, grown-graft, has-grown}
 
 -- the leaves below n

@@ -1,14 +1,22 @@
 -- Two answers that read alike are the same answer, so that a promise about what an answer reads as fixes the answer.
--- Main result: reads-unique.
+-- Main results: done-same, done-not-refused, reads-unique.
 use mathlib.Core.Bool.{cond}
 use mathlib.Core.Path.{_≡_, refl, sym, ap, _∙_}
 use Prim.Native.Nat.{ℕ}
+use native.Mathlib.Omega.{arith}
 use lib.Dec.{eqb}
 use Rattle.rules.specs.Answer.{Outcome, done, refused, numberOf, reads}
 use Rattle.rules.specs.declared.Kind.{Kind}
 use Rattle.rules.specs.declared.Kind.the-variants.{LeafCount, InputLength, Room, Entry, Parent, Child, NamedBefore, Grammar, Label, Padding, Permutation}
 use Rattle.rules.specs.declared.Answer.{Answer}
 use Rattle.rules.specs.declared.Answer.the-variants.{Done, Refused}
+
+-- an outcome is done or refused, and says its numbers
+pub done-same : {k l : ℕ} → done k ≡ done l → k ≡ l
+done-same e = cc
+
+pub done-not-refused : (n number place : ℕ) → done n ≡ refused number place → ⊥
+done-not-refused n number place e = let z : _≡_ {A = ℕ} 0 1 = cc in omega arith
 
 -- the kind of a number
 kindOf : ℕ → Kind

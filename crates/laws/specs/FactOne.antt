@@ -5,7 +5,7 @@ use Prim.Native.Nat.{ℕ, _<_}
 use lib.ListN.{length, take, getD}
 use Rattle.rules.specs.Vector.{Valid}
 use Rattle.rules.specs.Building.{merges}
-use Rattle.building.specs.Backwards.{merges-in-order}
+use Rattle.building.specs.InOrder.{merges-in-order}
 use Rattle.growing.specs.Complete.{Complete, next-complete}
 use Rattle.growing.specs.Ready.{Greatest}
 

@@ -9,7 +9,7 @@ use Rattle.rules.specs.Vector.{Valid, entry}
 use Rattle.rules.specs.Building.{Merge, merges}
 use Rattle.rules.specs.Order.{earlier, entryFrom, entryAt}
 use Rattle.merging.specs.Once.{times, times-append, hit, hit-same}
-use Rattle.building.specs.Backwards.{merges-in-order}
+use Rattle.building.specs.InOrder.{merges-in-order}
 use Rattle.building.specs.Entry.{fact-two, entry-split}
 
 -- "if s merges of two clusters both named below i came before i merged with cluster a, then v(i) = a when s = 0, else v(i) = i-1+s":

@@ -20,7 +20,7 @@
 --     TreeOf.tree-turned; the leaves of the tree: TreeOf.tree-leaves.
 -- "The result is the permutation new and the vector of the relabelled tree, which has v(i) < i for all i >= 1"
 --     shuffle_laws Taken.new-permutes, Shuffled.shuffled-ordered; "leaf x becoming p(x)": Renaming.renamed-below, renamed-clades.
--- What a shortened vector means (a later request): Shortened.shortened-valid, shortened-tree, shortened-clades.
+-- What a shortened vector means (a later request): building Shortened.valid-take, Shortened.shortened-tree, shortened-clades.
 -- What comes back: Answers.reads-unique. When a call refuses: Guards, FromVector, FromTable, FromRecord.
 pub mod Answers
 pub mod Guards

@@ -17,7 +17,7 @@ use Rattle.clades.specs.Size.{size-below}
 use Rattle.clades.specs.Form.{form-clades}
 use Rattle.clades.specs.Leaves.{below-some}
 use Rattle.clades.specs.Same.{same-refl, same-sym, same-trans, same-leaves}
-use Rattle.building.specs.Backwards.{InOrder, in-order-is-merges}
+use Rattle.building.specs.InOrder.{InOrder, in-order-is-merges}
 use Rattle.building.specs.Entry.{merges-injective}
 use Rattle.growing.specs.OrderOf.{order-rising, order-good, order-greedy, order-under, order-once, grown-order}
 use Rattle.laws.specs.TreeOf.{tree-leaves, equal-trees-equal-order}

@@ -1,5 +1,5 @@
--- A shortened vector is valid, and its tree is the tree of the whole with the later leaves taken out.
--- Main results: shortened-valid, shortened-tree, shortened-clades.
+-- The tree of a shortened vector is the tree of the whole with the later leaves taken out. (That it is valid: building Shortened.valid-take.)
+-- Main results: shortened-tree, shortened-clades.
 use mathlib.Core.Bool.{Bool}
 use mathlib.Core.List.{List}
 use mathlib.Core.Logic.{_↔_}
@@ -14,10 +14,6 @@ use Rattle.merging.specs.Insertion.{pairs, valid-bounded}
 use Rattle.building.specs.Shortened.{valid-take, only-pairs, pairs-take}
 use Rattle.growing.specs.Shortened.{keepBelow, pruned-pairs}
 use Rattle.laws.specs.TreeOf.{tree-by-pairs}
-
--- "the first m entries are valid"
-pub shortened-valid : (v : List ℕ) → Valid v → (m : ℕ) → 1 ≤ m → m ≤ length v → Valid (take m v)
-shortened-valid = valid-take
 
 -- the tree of the first m entries is the whole tree with the leaves from m on taken out
 pub shortened-tree : (v : List ℕ) → Valid v → (m : ℕ) → 1 ≤ m → m ≤ length v → pruned (keepBelow m) (treeOf v) ≡ some (treeOf (take m v))

@@ -14,7 +14,7 @@ use Rattle.rules.specs.Answer.{Outcome, done, refused, Made, made, answer, afte
 use Rattle.rules.specs.Calls.{toText}
 use Rattle.laws.specs.FromVector.{within-bounds}
 use Rattle.laws.specs.TreeOf.{tree-leaves}
-use Rattle.vector.specs.Fault.{valid-no-fault}
+use Rattle.basics.specs.Fault.{valid-no-fault}
 use Rattle.grammar.specs.Length.{text-length, text-length-most}
 use Rattle.text_writer.specs.Output.{Wrote}
 

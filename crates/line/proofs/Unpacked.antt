@@ -17,9 +17,10 @@ use Rattle.rules.specs.Record.{leafCount, recordLength, entriesOf, anySet, padd
 use Rattle.rules.specs.Answer.{Outcome, done, refused, Made, made, refuses, answer, after}
 use Rattle.rules.specs.Calls.{unpack}
 use Rattle.rules.specs.Listing.{lineOf, lineFor, then}
+use Rattle.laws.specs.Answers.{done-same, done-not-refused}
 use Rattle.laws.specs.FromRecord.{under-two-bytes, no-leaf-record, many-leaf-record, wrong-record, Headed, entry-refused, padding-refused, record-accepted}
 use Rattle.record_laws.specs.Inverse.{length-entries}
-use Rattle.vector.specs.Fault.{no-fault-valid}
+use Rattle.basics.specs.Fault.{no-fault-valid}
 use Rattle.text_writer.specs.Output.{Wrote}
 use Rattle.trees.proofs.Room.{Meets, full-room}
 use Rattle.line.proofs.Parts.{line-at-most}
@@ -86,22 +87,16 @@ pub record Accepted (s vector : List ℕ) (n : ℕ) : Type 0 where
   pub within : n ≤ length vector
   pub count : n ≡ length (take n vector)
 
-done-refused : (k number place : ℕ) → done k ≡ refused number place → ⊥
-done-refused k number place e = let z : _≡_ {A = ℕ} 0 1 = cc in omega arith
-
-done-same : {k l : ℕ} → done k ≡ done l → k ≡ l
-done-same e = cc
-
 pub accepted : (s old vector : List ℕ) (n room : ℕ) → done n ≡ answer (unpack s) room → vector ≡ after (unpack s) room old → Accepted s vector n
 unfolding answer after
 accepted s old vector n room d a = go (unpack s) refl
   where
     go : (m : Made) → unpack s ≡ m → Accepted s vector n
-    go (refuses number place) q = absurd (done-refused n number place (d ∙ rw q))
+    go (refuses number place) q = absurd (done-not-refused n number place (d ∙ rw q))
     go (made xs) q = inside (leb (length xs) room) refl
       where
         inside : (b : Bool) → leb (length xs) room ≡ b → Accepted s vector n
-        inside false p = absurd (done-refused n 3 (length xs) (d ∙ rw (q, p)))
+        inside false p = absurd (done-not-refused n 3 (length xs) (d ∙ rw (q, p)))
         inside true p =
             let k : n ≡ length xs = done-same (d ∙ rw (q, p)) in
             let l : vector ≡ xs ++ drop (length xs) old = a ∙ rw (q, p) in
@@ -124,7 +119,7 @@ line-refused s old number place room room′ r h = go (unpack s) refl
     go (refuses a b) q = record { outcome = h ∙ rw q; buffer = rw q }
     go (made xs) q =
         let few : length xs ≤ room = omega (arith, unpacked-sound s xs q .few) in
-        absurd (done-refused (length xs) number place (sym (h ∙ rw (q, le-leb (length xs) room few))))
+        absurd (done-not-refused (length xs) number place (sym (h ∙ rw (q, le-leb (length xs) room few))))
 
 line-made : (s v : List ℕ) → unpack s ≡ made v → lineFor s ≡ made (lineOf v)
 unfolding lineFor then

@@ -2,4 +2,5 @@ pub mod Insertion
 pub mod Once
 pub mod Greedy
 pub mod Named
-pub mod Names
+pub mod Rest
+pub mod Without

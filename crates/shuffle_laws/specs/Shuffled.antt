@@ -4,7 +4,7 @@ use mathlib.Core.Path.{_≡_, refl, sym, ap, ap₂, _∙_}
 use mathlib.Core.Logic.{_≢_}
 use mathlib.Core.Bool.{Bool, true, false, cond}
 use mathlib.Core.List.{List, [], _∷_, _++_}
-use Prim.Native.Nat.{ℕ, zero, suc, _+_, _-_, _*_, _≤_, _<_, max}
+use Prim.Native.Nat.{ℕ, zero, suc, _+_, _-_, _*_, _≤_, _<_, min, max}
 use native.Mathlib.Omega.{arith}
 use lib.Dec.{ltb}
 use borrow.Author.Tests.{eq-eqb, ne-eqb}
@@ -90,27 +90,15 @@ fits-cong f g next (e ∷ q) h a =
     (rw (relabelled-cong f g (e .0) (λ x k. h x (omega arith))) (a .0), fits-cong f g next q (λ y k. h y (omega arith)) (a .1))
 
 -- the keeper and the other under one node, whichever way round
-fits-node : (f : ℕ → ℕ) (l r : Tree) (b next : ℕ) → b < next → Fits f (next + 1) l b → Fits f (next + 1) r next → Fits f next (node l r) b
+fits-pair : (f : ℕ → ℕ) (l r : Tree) (x y next : ℕ) → x ≢ y → max x y ≡ next → Fits f (next + 1) l x → Fits f (next + 1) r y → Fits f next (node l r) (min x y)
 unfolding Fits relabelled least Falling
-fits-node f l r b next h L R = rw (L .0, R .0) (
-  omega arith,
+fits-pair f l r x y next d e L R = rw (L .0, R .0) (
+  refl,
   (
-    λ e. absurd (omega arith),
+    d,
     omega arith,
-    falling-down (suc (max b next)) (next + 1) (relabelled f l) (omega arith) (L .1),
-    falling-down (suc (max b next)) (next + 1) (relabelled f r) (omega arith) (R .1),
-  ),
-)
-
-fits-turned : (f : ℕ → ℕ) (l r : Tree) (b next : ℕ) → b < next → Fits f (next + 1) r b → Fits f (next + 1) l next → Fits f next (node l r) b
-unfolding Fits relabelled least Falling
-fits-turned f l r b next h R L = rw (L .0, R .0) (
-  omega arith,
-  (
-    λ e. absurd (omega arith),
-    omega arith,
-    falling-down (suc (max next b)) (next + 1) (relabelled f l) (omega arith) (L .1),
-    falling-down (suc (max next b)) (next + 1) (relabelled f r) (omega arith) (R .1),
+    falling-down (suc (max x y)) (next + 1) (relabelled f l) (omega arith) (L .1),
+    falling-down (suc (max x y)) (next + 1) (relabelled f r) (omega arith) (R .1),
   ),
 )
 
@@ -119,8 +107,8 @@ unfolding behind AllFit
 fits-behind f l r b next h = go (ltb (least l) (least r))
   where
     go : (c : Bool) → AllFit f (next + 1) (cond c ((l, b) ∷ (r, next) ∷ []) ((r, b) ∷ (l, next) ∷ [])) → Fits f next (node l r) b
-    go true a = fits-node f l r b next h (a .0) (a .1 .0)
-    go false a = fits-turned f l r b next h (a .0) (a .1 .0)
+    go true a = let e : min b next ≡ b = omega arith in rw e at (fits-pair f l r b next next (omega arith) (omega arith) (a .0) (a .1 .0))
+    go false a = let e : min next b ≡ b = omega arith in rw e at (fits-pair f l r next b next (omega arith) (omega arith) (a .1 .0) (a .0))
 
 fits-leaf : (f : ℕ → ℕ) (next x b : ℕ) → f x ≡ b → Fits f next (leaf x) b
 unfolding Fits relabelled least Falling

@@ -14,8 +14,7 @@ use Rattle.rules.specs.Building.{Merge}
 use Rattle.rules.specs.Table.{rowsFrom, rowFault, tableFault, childrenBelow, namedTwice}
 use Rattle.merging.specs.Insertion.{valid-bounded, pairsOf, pairs, pairs-count}
 use Rattle.merging.specs.Greedy.{Under, under-pairs}
-use Rattle.merging.specs.Named.{named, Good, good}
-use Rattle.merging.specs.Names.{smaller-named, larger-named, still-named, not-larger, named-below}
+use Rattle.merging.specs.Named.{named, Good, good, smaller-named, larger-named, still-named, not-larger, named-below}
 use Rattle.table_laws.specs.Nodes.{accepted-stands, stands-row}
 use Rattle.table_laws.specs.Rows.{renumber, renumber-same, renumber-other, renumber-below, rows-length}
 

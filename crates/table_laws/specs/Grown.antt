@@ -14,8 +14,7 @@ use Rattle.rules.specs.Tree.{leaf, node, Clusters, joined, grown}
 use Rattle.rules.specs.Table.{rowsFrom, nodesOf, tableTree}
 use Rattle.merging.specs.Insertion.{valid-bounded, pairsOf, pairs, pairs-count}
 use Rattle.merging.specs.Greedy.{Under, under-pairs}
-use Rattle.merging.specs.Named.{named, Good, good}
-use Rattle.merging.specs.Names.{smaller-named, larger-named, still-named, named-below}
+use Rattle.merging.specs.Named.{named, Good, good, smaller-named, larger-named, still-named, named-below}
 use Rattle.table_laws.specs.Nodes.{noded}
 use Rattle.table_laws.specs.Rows.{renumber, renumber-below, rows-length}
 

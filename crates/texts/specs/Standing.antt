@@ -17,10 +17,9 @@ use Rattle.rules.specs.Newick.{textOf}
 use Rattle.rules.specs.Table.{Row, rowsFrom, nodesOf, tableTree}
 use Rattle.merging.specs.Insertion.{pairsOf, pairs, pairs-count, valid-bounded}
 use Rattle.merging.specs.Greedy.{Under, under-pairs}
-use Rattle.merging.specs.Named.{named, Good, good, Rising, rising}
+use Rattle.merging.specs.Named.{named, Good, good, Rising, rising, smaller-named, larger-named, still-named, named-below}
 use Rattle.laws.specs.TreeOf.{tree-by-pairs, tree-leaves}
 use Rattle.grammar.specs.Length.{textLength, text-length}
-use Rattle.merging.specs.Names.{smaller-named, larger-named, still-named, named-below}
 use Rattle.table_laws.specs.Tied.{tied, treeAt, wholeTree, tree-whole}
 use Rattle.table_laws.specs.Rows.{first, second, rows-length, tied-rows, renumber}
 use Rattle.table_laws.specs.Accepted.{pairs-below}

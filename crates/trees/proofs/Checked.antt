@@ -15,8 +15,10 @@ use Rattle.rules.specs.declared.Refusal.{Refusal}
 use Rattle.rules.specs.declared.Answer.{Answer}
 use Rattle.rules.specs.declared.Answer.the-variants.{Done, Refused}
 use Rattle.rules.specs.Calls.{fromVector, check}
+use Rattle.laws.specs.Answers.{done-not-refused}
 use Rattle.laws.specs.FromVector.{no-entry, many-entries, above-bound, within-bounds}
-use Rattle.vector.specs.Fault.{firstFault, first-fault-some, first-fault-none, no-fault-valid, valid-no-fault}
+use Rattle.basics.specs.Fault.{no-fault-valid, valid-no-fault}
+use Rattle.vector.specs.Fault.{firstFault, first-fault-some, first-fault-none}
 
 pub empty-refused : (v : List ℕ) (o : Outcome) → length v ≡ 0 → o ≡ refused 1 0 → o ≡ answer (check v) 0
 unfolding check answer
@@ -58,9 +60,6 @@ seen v = count (eqb (length v) 0) refl
     count true q = faulty 1 0 (λ m. no-entry v m (eqb-true (length v) 0 q))
     count false q = large (omega (arith, eqb-false (length v) 0 q)) (ltb 1024 (length v)) refl
 
-not-both : (k number place : ℕ) → done k ≡ refused number place → ⊥
-not-both k number place p = let z : _≡_ {A = ℕ} 0 1 = cc in omega arith
-
 -- What a call makes of its vector where the check refused it: the same refusal, whatever it would make.
 pub record Alike (v : List ℕ) (o : Outcome) : Type 0 where
   pub number : ℕ
@@ -74,7 +73,7 @@ alike v r why h e = go (seen v)
   where
     go : Seen v → Alike v (reads (Refused why))
     go (faulty number place f) = record { number = number; place = place; same = ap reads (sym e) ∙ h ∙ rw (f (made [])); always = f }
-    go (sound ok u f) = absurd (not-both 0 _ _ (sym (ap reads (sym e) ∙ h ∙ rw (f (made [])))))
+    go (sound ok u f) = absurd (done-not-refused 0 _ _ (sym (ap reads (sym e) ∙ h ∙ rw (f (made [])))))
 
 -- the call's answer is then that refusal
 pub refused-alike : (v : List ℕ) (m : Made) (room : ℕ) (o : Outcome) → Alike v o → o ≡ answer (fromVector v m) room
@@ -96,7 +95,7 @@ unfolding check answer reads
 checked-sound v r k h e = go (seen v)
   where
     go : Seen v → Sound v
-    go (faulty number place f) = absurd (not-both k number place (ap reads (sym e) ∙ h ∙ rw (f (made []))))
+    go (faulty number place f) = absurd (done-not-refused k number place (ap reads (sym e) ∙ h ∙ rw (f (made []))))
     go (sound ok u f) = record { valid = ok; small = u }
 
 pub sound-made : (v : List ℕ) (m : Made) → Sound v → fromVector v m ≡ m

@@ -1,5 +1,5 @@
 -- What shuffle and relabel make of a sound vector.
--- Main results: new-made, shuffled-made, new-count, shuffled-count; length-refused, value-refused, relabel-made, relabel-count.
+-- Main results: new-made, shuffled-made, new-count, shuffled-count; length-refused, value-refused, relabel-made, renamed-count.
 use mathlib.Core.List.{List, [], _++_}
 use mathlib.Core.Logic.{_≢_}
 use mathlib.Core.Option.{none, some}
@@ -36,7 +36,7 @@ pub new-count : (v : List ℕ) → Sound v → length (newOf (treeOf v)) ≡ len
 new-count v S = new-no-fault (tree-leaves v (S .valid)) .0
 
 -- the vector of a renamed tree has an entry for each leaf
-renamed-count : (v p : List ℕ) → Sound v → length p ≡ length v → permutationFault (length v) 0 [] p ≡ none → length (vectorOf (renamed p (treeOf v))) ≡ length v
+pub renamed-count : (v p : List ℕ) → Sound v → length p ≡ length v → permutationFault (length v) 0 [] p ≡ none → length (vectorOf (renamed p (treeOf v))) ≡ length v
 renamed-count v p S l f =
     every-tree (length v) (renamed p (treeOf v)) (renamed-below (permutes (length v) p l f) (tree-leaves v (S .valid))) .entries
 
@@ -69,9 +69,6 @@ pub relabel-made : (v p : List ℕ) → Sound v → length p ≡ length v → pe
 unfolding relabel
 relabel-made v p S l f =
     sound-made v _ S ∙ right-length (length v) (length p) _ l ∙ pass-at 11 (permutationFault (length v) 0 [] p) _ f
-
-pub relabel-count : (v p : List ℕ) → Sound v → length p ≡ length v → permutationFault (length v) 0 [] p ≡ none → length (vectorOf (renamed p (treeOf v))) ≡ length v
-relabel-count = renamed-count
 
 -- the ends of shuffle, for both buffers at once
 pub shuffle-short : (v new out : List ℕ) (o : Outcome) → Sound v → min (length new) (length out) < length v → o ≡ refused 3 (length v)

@@ -5,7 +5,7 @@ use Rattle.rules.specs.Calls as calls
 use Rattle.trees.proofs.Checked.{checked-sound, alike, refused-alike, kept-alike}
 use Rattle.trees.proofs.Room.{short-room, full-room}
 use Rattle.trees.proofs.Packing.{refused-early}
-use Rattle.trees.proofs.Renaming.{length-refused, value-refused, no-value-fault, relabel-made, relabel-count}
+use Rattle.trees.proofs.Renaming.{length-refused, value-refused, no-value-fault, relabel-made, renamed-count}
 use Rattle.trees.proofs.relabel.Statement.{statement}
 use Rattle.trees.proofs.relabel.Tie as tie
 use Rattle.trees.proofs.relabel.Reads as reads
@@ -62,7 +62,7 @@ returns-3 : tie.Need-returns-3
 unfolding answers.reads answers.numberOf
 returns-3 c = let S = checked-sound _ _ _ (c .before .before .before .before .before .before .before .check .ensures) (c .before .before .before .before .before .enum-told .given .1) in
     let f = no-value-fault _ _ _ (c .before .before .before .before .if1 .left) (c .before .before .before .permutation-fault .ensures .1) (c .before .before .if2 .left) in
-    let M = short-room _ _ _ _ _ _ (relabel-made _ _ S (c .before .before .before .before .if1 .left) f) (relabel-count _ _ S (c .before .before .before .before .if1 .left) f) (c .before .if3 .taken) (c .refuse3 .ensures) in
+    let M = short-room _ _ _ _ _ _ (relabel-made _ _ S (c .before .before .before .before .if1 .left) f) (renamed-count _ _ S (c .before .before .before .before .if1 .left) f) (c .before .if3 .taken) (c .refuse3 .ensures) in
     (M .outcome, M .buffer)
 
 -- src/lib.rt:183:13
@@ -85,7 +85,7 @@ returns-5 : tie.Need-returns-5
 unfolding answers.reads answers.numberOf
 returns-5 c = let S = checked-sound _ _ _ (c .before .before .before .before .before .before .before .before .before .before .check .ensures) (c .before .before .before .before .before .before .before .before .enum-told .given .1) in
     let f = no-value-fault _ _ _ (c .before .before .before .before .before .before .before .if1 .left) (c .before .before .before .before .before .before .permutation-fault .ensures .1) (c .before .before .before .before .before .if2 .left) in
-    let M = full-room _ _ _ _ _ _ (relabel-made _ _ S (c .before .before .before .before .before .before .before .if1 .left) f) (relabel-count _ _ S (c .before .before .before .before .before .before .before .if1 .left) f) (c .before .before .before .before .if3 .left) (c .before .before .renamed-vector .ensures) in
+    let M = full-room _ _ _ _ _ _ (relabel-made _ _ S (c .before .before .before .before .before .before .before .if1 .left) f) (renamed-count _ _ S (c .before .before .before .before .before .before .before .if1 .left) f) (c .before .before .before .before .if3 .left) (c .before .before .renamed-vector .ensures) in
     (M .outcome, M .buffer)
 
 pub relabel-spec : {M : Type 1} → statement M

@@ -18,9 +18,9 @@ use Rattle.merging.specs.Insertion.{put, insert, pairsOf, pairs, Bounded, put-z
 use Rattle.merging.specs.Once.{times, place, entryIn, without, once}
 use Rattle.merging.specs.Greedy.{touch, free, Ahead, Greedy, Under, under-pairs, greedy}
 use Rattle.merging.specs.Named.{named, Good, good, Rising, rising}
+use Rattle.merging.specs.Without.{once-at, times-without, rising-without, under-without, good-without, greedy-unput, place-below, length-without}
 use Rattle.building.specs.Built.{merges-are-pairs}
 use Rattle.building.specs.Entry.{entry-last, entry-without}
-use Rattle.building.specs.Without.{once-at, times-without, rising-without, under-without, good-without, greedy-unput, place-below, length-without}
 
 -- The merge of the last leaf n comes first, or right behind one that it waits for; they have the smaller name in common.
 waits-for : (n : ℕ) (m p : Merge) (P : List Merge) → m .0 < m .1 → m .1 < n → p .1 ≡ n → Good (m ∷ p ∷ P) → free (m ∷ []) p ≡ false → m .0 ≡ p .0
