@@ -46,9 +46,14 @@ pub record Built (n : ℕ) (rs : List Row) (names lows small next last : List �
   pub next-room : n ≤ length next
   pub last-room : n ≤ length last
 
--- a row with the children l and r and the parent p can be added
-pub record Adds (n : ℕ) (rs : List Row) (p l r : ℕ) (names lows small next last : List ℕ) : Type 0 where
-  pub built : Built n rs names lows small next last
+-- a row with the children l and r and the parent p can be added. x and y are the names of the children, which names need not have any more.
+pub record Adds (n : ℕ) (rs : List Row) (p l r x y : ℕ) (names lows small next last : List ℕ) : Type 0 where
+  pub before : List ℕ
+  pub built : Built n rs before lows small next last
+  pub others : (k : ℕ) → k ≢ l → k ≢ r → cell names k ≡ cell before k
+  pub same : length names ≡ length before
+  pub first-name : x ≡ cell before l
+  pub second-name : y ≡ cell before r
   pub count : p ≡ n + length rs
   pub row : RowOk n (length rs) (taken rs) (l, r, p)
 
@@ -91,8 +96,8 @@ built-end {n} {rs} B e h =
     }
 
 -- One row more.
-module _ {n : ℕ} {rs : List Row} {p l r : ℕ} {names lows small next last : List ℕ} (A : Adds n rs p l r names lows small next last) where
-  B : Built n rs names lows small next last
+module _ {n : ℕ} {rs : List Row} {p l r x y : ℕ} {names lows small next last : List ℕ} (A : Adds n rs p l r x y names lows small next last) where
+  B : Built n rs (A .before) lows small next last
   B = A .built
 
   F : Forest n (length rs) (taken rs) (nodes rs)
@@ -117,10 +122,10 @@ module _ {n : ℕ} {rs : List Row} {p l r : ℕ} {names lows small next last : L
   abbrev K : ℕ
   K = min I (min (lowest 1024 L′) (lowest 1024 R′))
 
-  left : Tells l L′ names lows small next last
+  left : Tells l L′ (A .before) lows small next last
   left = B .free l (R .first) (R .first-new)
 
-  right : Tells r R′ names lows small next last
+  right : Tells r R′ (A .before) lows small next last
   right = B .free r (R .second) (R .second-new)
 
   -- two free nodes are left before, so that n leaves have room for one row more
@@ -258,8 +263,8 @@ module _ {n : ℕ} {rs : List Row} {p l r : ℕ} {names lows small next last : L
   small-other : (x : ℕ) → x ≢ I → cell small′ x ≡ cell small x
   small-other x h = getD-set-other small I x S 0 h
 
-  pub adds-parent : (p < length names) × (p < length lows) × (l < length names) × (r < length names) × (l < length lows) × (r < length lows)
-  adds-parent = let g = adds-few in let c = A .count in omega (arith, R .first, R .second, B .names-room, B .lows-room)
+  pub adds-parent : (p < length names) × (p < length lows) × (l < length lows) × (r < length lows)
+  adds-parent = let g = adds-few in let c = A .count in omega (arith, R .first, R .second, B .names-room, B .lows-room, A .same)
 
   new-tells : Tells p (node L′ R′) names′ lows′ small′ next′ last′
   unfolding least lowest Smaller
@@ -280,7 +285,7 @@ module _ {n : ℕ} {rs : List Row} {p l r : ℕ} {names lows small next last : L
       let T = B .free k h e in
       let c = A .count in
       record {
-        name = getD-set-other names p k S 0 (omega arith) ∙ T .name;
+        name = getD-set-other names p k S 0 (omega arith) ∙ A .others k f g ∙ T .name;
         key = getD-set-other lows p k K 0 (omega arith) ∙ T .key;
         smaller = smaller-cong (cell small) (cell small′) (nodes rs k) (λ x a. small-other x (apart x (pair-has (nodes rs k) x a) I (top-has L′ R′))) (T .smaller);
         held = λ x q. held-kept (cell next) (cell last) (cell next′) (cell last′) x (chain 1024 (nodes rs k) x) (last-other x (apart x q K K-has))
@@ -335,7 +340,7 @@ module _ {n : ℕ} {rs : List Row} {p l r : ℕ} {names lows small next last : L
     forest = forest′;
     free = free′;
     few = B .few;
-    names-room = omega (arith, length-set names p S, B .names-room);
+    names-room = omega (arith, length-set names p S, A .same, B .names-room);
     lows-room = omega (arith, length-set lows p K, B .lows-room);
     small-room = omega (arith, length-set small I S, B .small-room);
     next-room = omega (arith, length-set next I 0, length-set (set next I 0) J I, B .next-room);
@@ -343,13 +348,13 @@ module _ {n : ℕ} {rs : List Row} {p l r : ℕ} {names lows small next last : L
   }
 
   -- a and i are the smaller and the larger name of the row's pair, k its key and j the last name with that key
-  module _ {x y a i u v w k : ℕ} (ex : x ≡ cell names l) (ey : y ≡ cell names r) (ea : a ≡ min x y) (ei : i ≡ max x y)
+  module _ {a i u v w k : ℕ} (ea : a ≡ min x y) (ei : i ≡ max x y)
       (eu : u ≡ cell lows l) (ev : v ≡ cell lows r) (ew : w ≡ min u v) (ek : k ≡ min i w) where
     is-smaller : a ≡ S
-    is-smaller = ea ∙ ap₂ min (ex ∙ left .name) (ey ∙ right .name)
+    is-smaller = ea ∙ ap₂ min (A .first-name ∙ left .name) (A .second-name ∙ right .name)
 
     is-larger : i ≡ I
-    is-larger = ei ∙ ap₂ max (ex ∙ left .name) (ey ∙ right .name)
+    is-larger = ei ∙ ap₂ max (A .first-name ∙ left .name) (A .second-name ∙ right .name)
 
     is-key : k ≡ K
     is-key = ek ∙ ap₂ min is-larger (ew ∙ ap₂ min (eu ∙ left .key) (ev ∙ right .key))

@@ -7,7 +7,7 @@
 ghost use mathlib.Core.Path.{_≡_};
 ghost use mathlib.Core.List.{List, [], _∷_, _++_};
 ghost use Prim.Native.Nat.{ℕ, _+_, _-_, _<_, _≤_, min, max};
-ghost use lib.ListN.{length, drop};
+ghost use lib.ListN.{length, drop, set};
 ghost use Rattle.rules.specs.Order.{vectorOf};
 ghost use Rattle.rules.specs.Tree.{Tree};
 ghost use Rattle.rules.specs.Table.{Row};
@@ -125,7 +125,8 @@ fn lesser(x: usize, y: usize) -> usize
     y
 }
 
-fn greater(x: usize, y: usize) -> usize
+/// The greater of two numbers.
+pub fn greater(x: usize, y: usize) -> usize
     ensures { λ r. ⌜ r ≡ max x y ⌝ }
 {
     if x < y {
@@ -134,8 +135,8 @@ fn greater(x: usize, y: usize) -> usize
     x
 }
 
-/// Adds the row of node p with the children l and r to the arrays. names and lows have the name and the key of each node; a leaf has
-/// no pair, and its key is 1024. The pair goes to the end of its key's chain; next[0] belongs to no pair.
+/// Adds the row of node p with the children l and r, named x and y, to the arrays. names and lows have the name and the key of each node; a
+/// leaf has no pair, and its key is 1024. The pair goes to the end of its key's chain; next[0] belongs to no pair.
 pub fn add_pair(
     names: &mut [u16],
     lows: &mut [u16],
@@ -145,12 +146,13 @@ pub fn add_pair(
     p: usize,
     l: usize,
     r: usize,
+    x: usize,
+    y: usize,
 )
-    requires { ⌜ ((n : ℕ) × (rs : List Row) × Adds n rs p l r (now names) (now lows) (now small) (now next) (now last)) ⌝ }
-    ensures { λ _. ⌜ ((n : ℕ) (rs : List Row) → Adds n rs p l r (now (names .entry)) (now (lows .entry)) (now (small .entry)) (now (next .entry)) (now (last .entry)) → Built n (rs ++ ((l, r, p) ∷ [])) (now (names .exit)) (now (lows .exit)) (now (small .exit)) (now (next .exit)) (now (last .exit))) ⌝ }
+    requires { ⌜ ((n : ℕ) × (rs : List Row) × Adds n rs p l r x y (now names) (now lows) (now small) (now next) (now last)) ⌝ }
+    ensures { λ _. ⌜ ((n : ℕ) (rs : List Row) → Adds n rs p l r x y (now (names .entry)) (now (lows .entry)) (now (small .entry)) (now (next .entry)) (now (last .entry)) → Built n (rs ++ ((l, r, p) ∷ [])) (now (names .exit)) (now (lows .exit)) (now (small .exit)) (now (next .exit)) (now (last .exit))) ⌝ }
+    ensures { λ _. ⌜ now (names .exit) ≡ set (now (names .entry)) p (min x y) ⌝ }
 {
-    let x = wide(names[l]);
-    let y = wide(names[r]);
     let a = lesser(x, y);
     let i = greater(x, y);
     let k = lesser(i, lesser(wide(lows[l]), wide(lows[r])));

@@ -1,5 +1,5 @@
 -- Rows that are known to be accepted, given by their children.
--- Main definitions: Children, Added. Main results: row-ok, some-adds, added-start, added-next, added-end.
+-- Main definitions: Children, Added. Main results: row-ok, added-inside, some-adds, added-start, added-next, added-end.
 use mathlib.Core.Path.{_≡_, refl, sym, ap, _∙_, subst}
 use mathlib.Core.List.{List, [], _∷_, _++_}
 use mathlib.Core.Option.{none}
@@ -12,6 +12,7 @@ use lib.Seq.{take-suc, drop-cons, take-all}
 use Rattle.rules.specs.Tree.{Tree}
 use Rattle.rules.specs.Table.{Row, rowFault, tableFault, tableTree}
 use Rattle.rows.specs.Forest.{RowOk, namedIn, fault-append, fault-none, fault-step}
+use Rattle.order.specs.Walk.{cell}
 use Rattle.order.specs.Built.{taken, Built, Adds, built-end}
 use Rattle.order.specs.Vector.{Drawn}
 
@@ -64,25 +65,37 @@ added-start h l r s B = record {
 
 -- row t, with the children that stand at t, can be added
 adds : {n : ℕ} {left right : List ℕ} {t : ℕ} {names lows small next last : List ℕ} → Added n left right t names lows small next last → t < n - 1
-    → (rs : List Row) → Children n left right rs → Adds n (take t rs) (n + t) (getD left t 0) (getD right t 0) names lows small next last
-adds {n} {left} {right} {t} A h rs C =
+    → (rs : List Row) → Children n left right rs → Adds n (take t rs) (n + t) (getD left t 0) (getD right t 0) (cell names (getD left t 0)) (cell names (getD right t 0)) names lows small next last
+adds {n} {left} {right} {t} {names} A h rs C =
     let c = C .count in
     let l : length (take t rs) ≡ t = omega (arith, length-take t rs) in
     record {
+      before = names;
       built = A .built rs C;
+      others = λ k a b. refl;
+      same = refl;
+      first-name = refl;
+      second-name = refl;
       count = ap (λ (k : ℕ). n + k) (sym l);
       row = rw l (subst (RowOk n t (taken (take t rs))) (C .each t h) (row-ok n rs t (C .accepted) (omega arith)));
     }
 
-pub some-adds : {n : ℕ} {left right : List ℕ} {t l r : ℕ} {names lows small next last : List ℕ} → Added n left right t names lows small next last → t < n - 1
-    → l ≡ getD left t 0 → r ≡ getD right t 0 → (m : ℕ) × (rs : List Row) × Adds m rs (n + t) l r names lows small next last
-some-adds {n} {t = t} A h p q = rw (p, q) (n, take t (A .some-rows .0), adds A h (A .some-rows .0) (A .some-rows .1))
+pub added-inside : {n : ℕ} {left right : List ℕ} {t l r : ℕ} {names lows small next last : List ℕ} → Added n left right t names lows small next last → t < n - 1
+    → l ≡ getD left t 0 → r ≡ getD right t 0 → (l < length names) × (r < length names) × (l < 2048) × (r < 2048)
+added-inside {t = t} A h p q =
+    let a = adds A h (A .some-rows .0) (A .some-rows .1) in
+    let c = A .some-rows .1 .count in
+    omega (arith, a .row .first, a .row .second, a .built .names-room, A .few, length-take t (A .some-rows .0))
 
-pub added-next : {n : ℕ} {left right : List ℕ} {t l r : ℕ} {names lows small next last names′ lows′ small′ next′ last′ : List ℕ}
-    → Added n left right t names lows small next last → t < n - 1 → l ≡ getD left t 0 → r ≡ getD right t 0
-    → ((m : ℕ) (rs : List Row) → Adds m rs (n + t) l r names lows small next last → Built m (rs ++ ((l, r, n + t) ∷ [])) names′ lows′ small′ next′ last′)
+pub some-adds : {n : ℕ} {left right : List ℕ} {t l r x y : ℕ} {names lows small next last : List ℕ} → Added n left right t names lows small next last → t < n - 1
+    → l ≡ getD left t 0 → r ≡ getD right t 0 → x ≡ cell names l → y ≡ cell names r → (m : ℕ) × (rs : List Row) × Adds m rs (n + t) l r x y names lows small next last
+some-adds {n} {t = t} A h p q u v = rw (u, v) (rw (p, q) (n, take t (A .some-rows .0), adds A h (A .some-rows .0) (A .some-rows .1)))
+
+pub added-next : {n : ℕ} {left right : List ℕ} {t l r x y : ℕ} {names lows small next last names′ lows′ small′ next′ last′ : List ℕ}
+    → Added n left right t names lows small next last → t < n - 1 → l ≡ getD left t 0 → r ≡ getD right t 0 → x ≡ cell names l → y ≡ cell names r
+    → ((m : ℕ) (rs : List Row) → Adds m rs (n + t) l r x y names lows small next last → Built m (rs ++ ((l, r, n + t) ∷ [])) names′ lows′ small′ next′ last′)
     → Added n left right (t + 1) names′ lows′ small′ next′ last′
-added-next {n} {left} {right} {t} {l} {r} {names} {lows} {small} {next} {last} {names′ = a} {lows′ = b} {small′ = c} {next′ = d} {last′ = e} A h p q f = record {
+added-next {n} {left} {right} {t} {l} {r} {x} {y} {names} {lows} {small} {next} {last} {names′ = a} {lows′ = b} {small′ = c} {next′ = d} {last′ = e} A h p q u v f = record {
   so-far = omega arith;
   few = A .few;
   left-room = A .left-room;
@@ -90,7 +103,7 @@ added-next {n} {left} {right} {t} {l} {r} {names} {lows} {small} {next} {last} {
   some-rows = A .some-rows;
   built = λ rs C.
       let k = C .count in
-      let ads : Adds n (take t rs) (n + t) l r names lows small next last = rw (p, q) (adds A h rs C) in
+      let ads : Adds n (take t rs) (n + t) l r x y names lows small next last = rw (u, v) (rw (p, q) (adds A h rs C)) in
       let row : getD rs t (0, 0, 0) ≡ (l, r, n + t) = C .each t h ∙ (λ i. (sym p i, sym q i, n + t)) in
       let more : take t rs ++ ((l, r, n + t) ∷ []) ≡ take (t + 1) rs =
       ap (λ (x : Row). take t rs ++ (x ∷ [])) (sym row) ∙ sym (take-suc rs t (0, 0, 0) (omega arith)) ∙ ap (λ (j : ℕ). take j rs) (sym (add-one t)) in

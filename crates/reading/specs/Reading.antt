@@ -1,75 +1,55 @@
 -- The rows of a table, read one by one.
--- Main definitions: Reads, Row-at, Accepted. Main results: reads-start, reads-adds, reads-next, reads-fault, reads-end.
+-- Main definitions: Reads, Row-at, Accepted. Main results: reads-start, reads-named, adds-some, reads-next, reads-fault, reads-end.
 use mathlib.Core.Path.{_≡_, refl, sym, ap, ap₂, _∙_, subst}
-use mathlib.Core.Logic.{_≢_}
-use mathlib.Core.Bool.{Bool, true, false, not, _||_}
+use mathlib.Core.Logic.{_≢_, ⊎-elim}
+use mathlib.Core.Bool.{Bool, true, false, _||_, false≢true}
 use mathlib.Core.List.{List, [], _∷_, _++_}
-use mathlib.Core.Option.{Option, none, some}
-use Prim.Native.Nat.{ℕ, zero, suc, _+_, _-_, _*_, _≤_, _<_}
+use mathlib.Core.Option.{none, some}
+use Prim.Native.Nat.{ℕ, suc, _+_, _-_, _*_, _≤_, _<_, min, max}
 use native.Mathlib.Numerals.{add-one}
 use native.Mathlib.Omega.{arith}
-use lib.Dec.{eqb, ltb}
-use lib.ListN.{length, getD, set, take, drop, length-take, length-set, take-append-drop, replicate}
+use lib.Dec.{eqb, leb}
+use lib.ListN.{length, getD, set, take, drop, length-take, length-set, take-append-drop}
 use lib.Seq.{getD-set-same, getD-set-other, take-all}
-use borrow.Author.Tests.{eqb-true, eqb-false, eq-eqb, ne-eqb}
-use Rattle.rules.specs.Table.{Row, rowsOf, rowFault, tableFault, tableTree}
-use Rattle.rules.specs.Order.{vectorOf}
-use Rattle.basics.specs.Bools.{or-false}
+use borrow.Author.Tests.{eqb-true, eqb-false, leb-true, leb-false}
+use Rattle.rules.specs.Tree.{least}
+use Rattle.rules.specs.Table.{Row, rowsOf, namedTwice, rowFault, tableFault}
+use Rattle.basics.specs.Bools.{or-false, or-cases}
+use Rattle.rows.specs.Larger.{least-has}
 use Rattle.rows.specs.Forest.{RowOk, namedIn, namedAlso, named-snoc, fault-append, fault-step}
-use Rattle.order.specs.Built.{taken, Built, Adds}
+use Rattle.order.specs.Walk.{cell}
+use Rattle.order.specs.Built.{taken, nodes, Built, Adds}
 use Rattle.reading.specs.RowAt.{rowAt, rows-count, rows-drop, rows-take}
-use Rattle.reading.specs.Verdict.{flag, verdict, verdict-fault, verdict-row, verdict-cong}
+use Rattle.reading.specs.Verdict.{verdict, verdict-fault, placed, named-verdict, placed-row}
 
--- t rows are read: accepted, added to the arrays, their children flagged
-pub record Reads (n : ℕ) (xs : List ℕ) (t : ℕ) (named names lows small next last : List ℕ) : Type 0 where
+-- t rows are read: accepted, added to the arrays, their children marked
+pub record Reads (n : ℕ) (xs : List ℕ) (t : ℕ) (names lows small next last : List ℕ) : Type 0 where
   pub some-leaf : 1 ≤ n
   pub few : n ≤ 1024
   pub count : length xs ≡ 3 * (n - 1)
   pub so-far : t ≤ n - 1
-  pub room : length named ≡ 2048
-  pub flags : (c : ℕ) → flag named c ≡ taken (take t (rowsOf xs)) c
+  pub marked : (c : ℕ) → taken (take t (rowsOf xs)) c ≡ true → cell names c ≡ 65535
   pub clean : rowFault n 0 (λ c. false) (take t (rowsOf xs)) ≡ none
   pub built : Built n (take t (rowsOf xs)) names lows small next last
 
 -- the lists keep their lengths
-pub record Lengths (named₀ names₀ lows₀ small₀ next₀ last₀ named names lows small next last : List ℕ) : Type 0 where
-  pub of-named : length named ≡ length named₀
+pub record Lengths (names₀ lows₀ small₀ next₀ last₀ names lows small next last : List ℕ) : Type 0 where
   pub of-names : length names ≡ length names₀
   pub of-lows : length lows ≡ length lows₀
   pub of-small : length small ≡ length small₀
   pub of-next : length next ≡ length next₀
   pub of-last : length last ≡ length last₀
 
--- one flag more
-flag-set : (named : List ℕ) (l c : ℕ) → l < length named → flag (set named l 1) c ≡ flag named c || eqb c l
-unfolding flag
-flag-set named l c h = go (eqb c l) refl
-  where
-    after-or : (b : Bool) → b || true ≡ true
-    after-or true = refl
-    after-or false = refl
-
-    go : (b : Bool) → eqb c l ≡ b → not (eqb (getD (set named l 1) c 0) 0) ≡ not (eqb (getD named c 0) 0) || b
-    go true q = rw (eqb-true c l q, getD-set-same named l 1 0 h) (sym (after-or (not (eqb (getD named l 0) 0))))
-    go false q = rw (getD-set-other named l c 1 0 (eqb-false c l q)) (sym (or-false (not (eqb (getD named c 0) 0))))
-
--- a list of zeros
-pub zeros : (k c : ℕ) → _≡_ {A = ℕ} (getD (replicate k 0) c 0) 0
-zeros zero c = refl
-zeros (suc k) zero = refl
-zeros (suc k) (suc c) = zeros k c
-
 -- no row is read yet
-pub reads-start : {n : ℕ} {xs named names lows small next last : List ℕ} → 1 ≤ n → n ≤ 1024 → length xs ≡ 3 * (n - 1) → length named ≡ 2048
-    → ((c : ℕ) → getD named c 0 ≡ 0) → Built n [] names lows small next last → Reads n xs 0 named names lows small next last
-unfolding flag namedIn
-reads-start {xs = xs} l h e r z B = record {
+pub reads-start : {n : ℕ} {xs names lows small next last : List ℕ} → 1 ≤ n → n ≤ 1024 → length xs ≡ 3 * (n - 1) → Built n [] names lows small next last
+    → Reads n xs 0 names lows small next last
+unfolding namedIn
+reads-start {xs = xs} l h e B = record {
   some-leaf = l;
   few = h;
   count = e;
   so-far = omega arith;
-  room = r;
-  flags = λ k. rw (z k);
+  marked = λ c q. absurd (false≢true q);
   clean = unfold rowFault in refl;
   built = B;
 }
@@ -85,84 +65,165 @@ pub record Row-at (n : ℕ) (xs : List ℕ) (t l r p : ℕ) : Type 0 where
   pub second : getD xs (3 * t + 1) 0 ≡ r
   pub parent : getD xs (3 * t + 2) 0 ≡ p
 
+zero-more : (j : ℕ) → 0 + j ≡ j
+zero-more j = omega arith
+
+after-or : (b : Bool) → b || true ≡ true
+after-or true = refl
+after-or false = refl
+
 row-of : (n : ℕ) (xs : List ℕ) (t l r p : ℕ) → Row-at n xs t l r p → rowAt xs t ≡ (l, r, p)
 unfolding rowAt
 row-of n xs t l r p A = λ i. (A .first i, A .second i, A .parent i)
 
--- the flags say what the rows so far have taken
-verdict-taken : {n : ℕ} {xs : List ℕ} {t : ℕ} (l r p : ℕ) {named names lows small next last : List ℕ} → Reads n xs t named names lows small next last
-    → verdict (flag named) (n + t) (l, r, p) ≡ verdict (taken (take t (rowsOf xs))) (n + t) (l, r, p)
-verdict-taken {n} {xs} {t} l r p {named} R = verdict-cong (flag named) (taken (take t (rowsOf xs))) (n + t) (l, r, p) (λ c h. R .flags c)
+-- Row t, whose parent and children are in place.
+module _ {n : ℕ} {xs : List ℕ} {t l r p : ℕ} {names lows small next last : List ℕ} (R : Reads n xs t names lows small next last) (A : Row-at n xs t l r p)
+    (v : placed (n + t) (l, r, p) ≡ 0) where
+  abbrev before : List Row
+  before = take t (rowsOf xs)
 
--- a row that is not refused can be added
-pub reads-adds : {n : ℕ} {xs : List ℕ} {t l r p : ℕ} {named names lows small next last : List ℕ} → Reads n xs t named names lows small next last
-    → Row-at n xs t l r p → verdict (flag named) (n + t) (l, r, p) ≡ 0 → Adds n (take t (rowsOf xs)) (n + t) l r names lows small next last
-reads-adds {n} {xs} {t} {l} {r} {p} R A v =
-    let k = rows-read n xs t (R .count) (R .so-far) in
-    let ok = verdict-row n t (taken (take t (rowsOf xs))) (l, r, p) (sym (verdict-taken l r p R) ∙ v) in
-    record {
-      built = R .built;
-      count = ap (λ (j : ℕ). n + j) (sym k);
-      row = rw k (subst (λ (q : ℕ). RowOk n t (taken (take t (rowsOf xs))) (l, r, q)) (ok .parent) ok);
-    }
+  long : length before ≡ t
+  long = rows-read n xs t (R .count) (R .so-far)
 
--- a row more is read
-pub reads-next : {n : ℕ} {xs : List ℕ} {t l r p : ℕ} {named names lows small next last names′ lows′ small′ next′ last′ : List ℕ}
-    → Reads n xs t named names lows small next last → Row-at n xs t l r p → verdict (flag named) (n + t) (l, r, p) ≡ 0
-    → Built n (take t (rowsOf xs) ++ ((l, r, n + t) ∷ [])) names′ lows′ small′ next′ last′
-    → Reads n xs (t + 1) (set (set named l 1) r 1) names′ lows′ small′ next′ last′
-reads-next {n} {xs} {t} {l} {r} {p} {named} {names′ = a} {lows′ = b} {small′ = c} {next′ = d} {last′ = e} R A v B =
-    let named₀ = taken (take t (rowsOf xs)) in
-    let ok = verdict-row n t named₀ (l, r, p) (sym (verdict-taken l r p R) ∙ v) in
-    let row : rowAt xs t ≡ (l, r, n + t) = row-of n xs t l r p A ∙ ap (λ (q : ℕ). (l, r, q)) (ok .parent) in
-    let more : take (t + 1) (rowsOf xs) ≡ take t (rowsOf xs) ++ ((l, r, n + t) ∷ []) =
-    ap (λ (k : ℕ). take k (rowsOf xs)) (add-one t) ∙ rows-take (n - 1) xs t (R .count) (A .inside) ∙ ap (λ (q : Row). take t (rowsOf xs) ++ (q ∷ [])) row in
-    let ok′ : RowOk n t named₀ (l, r, n + t) = subst (λ (q : ℕ). RowOk n t named₀ (l, r, q)) (ok .parent) ok in
-    let k = rows-read n xs t (R .count) (R .so-far) in
-    let few = R .few in
-    let inside = A .inside in
-    let below-l = ok .first in
-    let below-r = ok .second in
-    let room = R .room in
-    record {
-      some-leaf = R .some-leaf;
-      few = R .few;
-      count = R .count;
-      so-far = omega arith;
-      room = length-set (set named l 1) r 1 ∙ length-set named l 1 ∙ R .room;
-      flags = λ c. flagged few inside below-l below-r room c ∙ ap (λ (x : Bool). x || eqb c l || eqb c r) (R .flags c) ∙ also c ∙ ap (λ (rs : List Row). taken rs c) (sym more);
-      clean = ap (rowFault n 0 (λ c. false)) more ∙ fault-append n 0 (λ c. false) (take t (rowsOf xs)) ((l, r, n + t) ∷ []) (R .clean)
-          ∙ ap (λ (j : ℕ). rowFault n j named₀ ((l, r, n + t) ∷ [])) (ap (λ (j : ℕ). 0 + j) k ∙ zero-more t) ∙ fault-step n t named₀ (l, r, n + t) [] ok′ ∙ unfold rowFault in refl;
-      built = subst (λ (rs : List Row). Built n rs a b c d e) (sym more) B;
-    }
-  where
-    zero-more : (j : ℕ) → 0 + j ≡ j
-    zero-more j = omega arith
+  there : (p ≡ n + t) × (l < n + t) × (r < n + t)
+  there = placed-row (n + t) (l, r, p) v
 
-    flagged : n ≤ 1024 → t < n - 1 → l < n + t → r < n + t → length named ≡ 2048 → (c : ℕ) → flag (set (set named l 1) r 1) c ≡ flag named c || eqb c l || eqb c r
-    flagged few inside bl br room c =
-        flag-set (set named l 1) r c (omega (arith, length-set named l 1)) ∙ ap (λ (x : Bool). x || eqb c r) (flag-set named l c (omega arith))
+  pub reads-inside : (l < length names) × (r < length names)
+  reads-inside = let a = there in omega (arith, R .built .names-room, A .inside)
 
-    also : (c : ℕ) → taken (take t (rowsOf xs)) c || eqb c l || eqb c r ≡ taken (take t (rowsOf xs) ++ ((l, r, n + t) ∷ [])) c
-    also c = unfold namedAlso in sym (ap (λ (f : ℕ → Bool). f c) (named-snoc (λ c. false) (take t (rowsOf xs)) (l, r, n + t)))
+  -- a name that stands is that of a node not taken
+  free : (c : ℕ) → cell names c < 65535 → taken before c ≡ false
+  free c h = go (taken before c) refl
+    where
+      go : (b : Bool) → taken before c ≡ b → b ≡ false
+      go true e = absurd (omega (arith, R .marked c e))
+      go false e = refl
+
+  named : (c : ℕ) → c < n + t → 65535 ≤ cell names c → taken before c ≡ true
+  named c h l = go (taken before c) refl
+    where
+      go : (b : Bool) → taken before c ≡ b → b ≡ true
+      go true e = refl
+      go false e =
+          let k : c < n + length before = omega (arith, long) in
+          let B = R .built in
+          absurd (omega (arith, B .free c k e .name, B .forest .below c (least (nodes before c)) k (least-has (nodes before c)), R .few))
+
+  -- x and y are what names has of its children; the first is marked before the second is looked up
+  module _ {x y : ℕ} {names₁ names₂ : List ℕ} (ex : x ≡ cell names l) (e₁ : names₁ ≡ set names l 65535) (ey : y ≡ cell names₁ r) (e₂ : names₂ ≡ set names₁ r 65535) where
+    both : names₂ ≡ set (set names l 65535) r 65535
+    both = e₂ ∙ ap (λ (ys : List ℕ). set ys r 65535) e₁
+
+    looked : y ≡ cell (set names l 65535) r
+    looked = ey ∙ ap (λ (ys : List ℕ). cell ys r) e₁
+
+    -- a mark: a child is named before, or twice
+    pub reads-named : 65535 ≤ max x y → 7 ≡ verdict (taken before) (n + t) (l, r, p)
+    unfolding namedTwice
+    reads-named h = named-verdict (taken before) (n + t) (l, r, p) v (go (leb 65535 x) refl (eqb l r) refl)
+      where
+        go : (a : Bool) → leb 65535 x ≡ a → (b : Bool) → eqb l r ≡ b → taken before l || taken before r || eqb l r ≡ true
+        go true q b s = rw (named l (there .1) (omega (arith, leb-true 65535 x q)))
+        go false q true s = rw s (after-or (taken before l || taken before r))
+        go false q false s =
+            let e : y ≡ cell names r = looked ∙ getD-set-other names l r 65535 0 (λ z. eqb-false l r s (sym z)) in
+            let d = named r (there .2) (omega (arith, leb-false 65535 x q)) in
+            rw (d, s) (or-false (taken before l || true) ∙ after-or (taken before l))
+
+    -- no mark
+    module _ (h : max x y < 65535) where
+      differ : l ≢ r
+      differ e =
+          let z : y ≡ 65535 = looked ∙ ap (cell (set names l 65535)) (sym e) ∙ getD-set-same names l 65535 0 (reads-inside .0) in
+          omega arith
+
+      second : y ≡ cell names r
+      second = looked ∙ getD-set-other names l r 65535 0 (λ e. differ (sym e))
+
+      row-fits : RowOk n t (taken before) (l, r, n + t)
+      row-fits = record {
+        parent = refl;
+        first = there .1;
+        second = there .2;
+        first-new = free l (omega arith);
+        second-new = free r (let e = second in omega arith);
+        differ = differ;
+      }
+
+      reads-adds : Adds n before (n + t) l r x y names₂ lows small next last
+      reads-adds = record {
+        before = names;
+        built = R .built;
+        others = λ k a b. ap (λ (ys : List ℕ). cell ys k) both ∙ getD-set-other (set names l 65535) r k 65535 0 b ∙ getD-set-other names l k 65535 0 a;
+        same = ap length both ∙ length-set (set names l 65535) r 65535 ∙ length-set names l 65535;
+        first-name = ex;
+        second-name = second;
+        count = ap (λ (j : ℕ). n + j) (sym long);
+        row = rw long row-fits;
+      }
+
+      pub adds-some : (m : ℕ) × (rs : List Row) × Adds m rs (n + t) l r x y names₂ lows small next last
+      adds-some = (n, before, reads-adds)
+
+      -- a row more is read
+      pub reads-next : {names′ lows′ small′ next′ last′ : List ℕ} → names′ ≡ set names₂ (n + t) (min x y)
+          → ((m : ℕ) (rs : List Row) → Adds m rs (n + t) l r x y names₂ lows small next last
+          → Built m (rs ++ ((l, r, n + t) ∷ [])) names′ lows′ small′ next′ last′)
+          → Reads n xs (t + 1) names′ lows′ small′ next′ last′
+      reads-next {names′} {lows′} {small′} {next′} {last′} e f =
+          let row : rowAt xs t ≡ (l, r, n + t) = row-of n xs t l r p A ∙ ap (λ (q : ℕ). (l, r, q)) (there .0) in
+          let more : take (t + 1) (rowsOf xs) ≡ before ++ ((l, r, n + t) ∷ []) =
+          ap (λ (k : ℕ). take k (rowsOf xs)) (add-one t) ∙ rows-take (n - 1) xs t (R .count) (A .inside) ∙ ap (λ (q : Row). before ++ (q ∷ [])) row in
+          record {
+            some-leaf = R .some-leaf;
+            few = R .few;
+            count = R .count;
+            so-far = let i = A .inside in omega arith;
+            marked = λ c q. marks c (also c (sym (ap (λ (rs : List Row). taken rs c) more) ∙ q));
+            clean = ap (rowFault n 0 (λ c. false)) more ∙ fault-append n 0 (λ c. false) before ((l, r, n + t) ∷ []) (R .clean)
+                ∙ ap (λ (j : ℕ). rowFault n j (taken before) ((l, r, n + t) ∷ [])) (ap (λ (j : ℕ). 0 + j) long ∙ zero-more t)
+                ∙ fault-step n t (taken before) (l, r, n + t) [] row-fits ∙ unfold rowFault in refl;
+            built = subst (λ (rs : List Row). Built n rs names′ lows′ small′ next′ last′) (sym more) (f n before reads-adds);
+          }
+        where
+          also : (c : ℕ) → taken (before ++ ((l, r, n + t) ∷ [])) c ≡ true → (taken before c || eqb c l) || eqb c r ≡ true
+          also c q = unfold namedAlso in sym (ap (λ (g : ℕ → Bool). g c) (named-snoc (λ c. false) before (l, r, n + t))) ∙ q
+
+          other : (c : ℕ) → c < n + t → cell names′ c ≡ cell (set (set names l 65535) r 65535) c
+          other c k = ap (λ (ys : List ℕ). cell ys c) e ∙ getD-set-other names₂ (n + t) c (min x y) 0 (omega arith) ∙ ap (λ (ys : List ℕ). cell ys c) both
+
+          is-second : (c : ℕ) → eqb c r ≡ true → cell names′ c ≡ 65535
+          is-second c q = rw (eqb-true c r q) (other r (there .2) ∙ getD-set-same (set names l 65535) r 65535 0 (let i = reads-inside in omega (arith, length-set names l 65535)))
+
+          is-first : (c : ℕ) → eqb c l ≡ true → cell names′ c ≡ 65535
+          is-first c q =
+              rw (eqb-true c l q)
+              (other l (there .1) ∙ getD-set-other (set names l 65535) r l 65535 0 differ ∙ getD-set-same names l 65535 0 (reads-inside .0))
+
+          is-old : (c : ℕ) → taken before c ≡ true → (a : Bool) → eqb c l ≡ a → (b : Bool) → eqb c r ≡ b → cell names′ c ≡ 65535
+          is-old c q true u b w = is-first c u
+          is-old c q false u true w = is-second c w
+          is-old c q false u false w =
+              other c (omega (arith, R .built .forest .early c q, long))
+              ∙ getD-set-other (set names l 65535) r c 65535 0 (eqb-false c r w) ∙ getD-set-other names l c 65535 0 (eqb-false c l u) ∙ R .marked c q
+
+          marks : (c : ℕ) → (taken before c || eqb c l) || eqb c r ≡ true → cell names′ c ≡ 65535
+          marks c q = ⊎-elim (λ a. ⊎-elim (λ b. is-old c b (eqb c l) refl (eqb c r) refl) (is-first c) (or-cases (taken before c) (eqb c l) a)) (is-second c)
+              (or-cases (taken before c || eqb c l) (eqb c r) q)
 
 -- the first row that is refused is the fault of the table
-pub reads-fault : {n : ℕ} {xs : List ℕ} {t l r p : ℕ} {named names lows small next last : List ℕ} → Reads n xs t named names lows small next last
-    → Row-at n xs t l r p → verdict (flag named) (n + t) (l, r, p) ≢ 0 → tableFault n (rowsOf xs) ≡ some (verdict (flag named) (n + t) (l, r, p), t)
+pub reads-fault : {n : ℕ} {xs : List ℕ} {t l r p : ℕ} {names lows small next last : List ℕ} → Reads n xs t names lows small next last
+    → Row-at n xs t l r p → verdict (taken (take t (rowsOf xs))) (n + t) (l, r, p) ≢ 0
+    → tableFault n (rowsOf xs) ≡ some (verdict (taken (take t (rowsOf xs))) (n + t) (l, r, p), t)
 unfolding tableFault
-reads-fault {n} {xs} {t} {l} {r} {p} {named} R A d =
+reads-fault {n} {xs} {t} {l} {r} {p} R A d =
     let named₀ = taken (take t (rowsOf xs)) in
-    let e = verdict-taken l r p R in
     let k = rows-read n xs t (R .count) (R .so-far) in
     ap (rowFault n 0 (λ c. false)) (sym (take-append-drop t (rowsOf xs)))
     ∙ fault-append n 0 (λ c. false) (take t (rowsOf xs)) (drop t (rowsOf xs)) (R .clean)
     ∙ ap₂ (λ (j : ℕ) (rs : List Row). rowFault n j named₀ rs) (ap (λ (j : ℕ). 0 + j) k ∙ zero-more t)
     (rows-drop (n - 1) xs t (R .count) (A .inside) ∙ ap (λ (q : Row). q ∷ drop (suc t) (rowsOf xs)) (row-of n xs t l r p A))
-    ∙ verdict-fault n t named₀ (l, r, p) (drop (suc t) (rowsOf xs)) (λ z. d (e ∙ z))
-    ∙ ap (λ (j : ℕ). some (j, t)) (sym e)
-  where
-    zero-more : (j : ℕ) → 0 + j ≡ j
-    zero-more j = omega arith
+    ∙ verdict-fault n t named₀ (l, r, p) (drop (suc t) (rowsOf xs)) d
 
 -- all rows are read
 pub record Accepted (n : ℕ) (xs names lows small next last : List ℕ) : Type 0 where
@@ -170,7 +231,7 @@ pub record Accepted (n : ℕ) (xs names lows small next last : List ℕ) : Type 
   pub count : length (rowsOf xs) ≡ n - 1
   pub built : Built n (rowsOf xs) names lows small next last
 
-pub reads-end : {n : ℕ} {xs : List ℕ} {t : ℕ} {named names lows small next last : List ℕ} → Reads n xs t named names lows small next last → n - 1 ≤ t
+pub reads-end : {n : ℕ} {xs : List ℕ} {t : ℕ} {names lows small next last : List ℕ} → Reads n xs t names lows small next last → n - 1 ≤ t
     → Accepted n xs names lows small next last
 unfolding tableFault
 reads-end {n} {xs} {t} {names = a} {lows = b} {small = c} {next = d} {last = e′} R h =
@@ -182,24 +243,3 @@ reads-end {n} {xs} {t} {names = a} {lows = b} {small = c} {next = d} {last = e�
       count = k;
       built = subst (λ (rs : List Row). Built n rs a b c d e′) e (R .built);
     }
-
--- the flags of an accepted row's children are there
-pub reads-inside : {n : ℕ} {xs : List ℕ} {t : ℕ} (l r p : ℕ) {named names lows small next last : List ℕ} → Reads n xs t named names lows small next last
-    → t < n - 1 → verdict (flag named) (n + t) (l, r, p) ≡ 0 → (l < length named) × (r < length named)
-reads-inside {n} {xs} {t} l r p {named} R h v =
-    let ok = verdict-row n t (flag named) (l, r, p) v in
-    let few = R .few in
-    let room = R .room in
-    (omega (arith, ok .first), omega (arith, ok .second))
-
--- the rows so far can take one more
-pub adds-some : {n : ℕ} {xs : List ℕ} {t l r p : ℕ} {named names lows small next last : List ℕ} → Reads n xs t named names lows small next last
-    → Row-at n xs t l r p → verdict (flag named) (n + t) (l, r, p) ≡ 0 → (m : ℕ) × (rs : List Row) × Adds m rs (n + t) l r names lows small next last
-adds-some {n} {xs = xs} {t = t} R A v = (n, take t (rowsOf xs), reads-adds R A v)
-
--- and have taken it, where adding does as it says for any rows
-pub reads-more : {n : ℕ} {xs : List ℕ} {t l r p : ℕ} {named names lows small next last names′ lows′ small′ next′ last′ : List ℕ}
-    → Reads n xs t named names lows small next last → Row-at n xs t l r p → verdict (flag named) (n + t) (l, r, p) ≡ 0
-    → ((m : ℕ) (rs : List Row) → Adds m rs (n + t) l r names lows small next last → Built m (rs ++ ((l, r, n + t) ∷ [])) names′ lows′ small′ next′ last′)
-    → Reads n xs (t + 1) (set (set named l 1) r 1) names′ lows′ small′ next′ last′
-reads-more {n} {xs = xs} {t = t} R A v f = reads-next R A v (f n (take t (rowsOf xs)) (reads-adds R A v))

@@ -1,20 +1,21 @@
 -- What reading a table tells: the fault that was found, or the vector.
--- Main definitions: HasRead, Told. Main results: read-fault, read-all, told-fault, told-vector.
+-- Main definitions: HasRead, Told. Main results: read-placed, read-named, read-all, told-fault, told-vector.
 use mathlib.Core.Path.{_≡_, refl, sym, ap, _∙_}
 use mathlib.Core.Logic.{_≢_}
 use mathlib.Core.List.{List, _++_}
 use mathlib.Core.Option.{none, some}
-use Prim.Native.Nat.{ℕ, _+_, _-_, _≤_}
+use Prim.Native.Nat.{ℕ, _+_, _-_, _≤_, max}
 use native.Mathlib.Omega.{arith}
-use lib.ListN.{length, drop}
+use lib.ListN.{length, take, drop, set}
 use Rattle.rules.specs.Tree.{Tree}
 use Rattle.rules.specs.Order.{vectorOf}
 use Rattle.rules.specs.Table.{rowsOf, tableFault, tableTree}
-use Rattle.order.specs.Built.{Built, built-end}
+use Rattle.order.specs.Walk.{cell}
+use Rattle.order.specs.Built.{taken, Built, built-end}
 use Rattle.order.specs.Vector.{Drawn}
 use Rattle.reading.specs.declared.Found.{Found}
-use Rattle.reading.specs.Verdict.{flag, verdict, rowNumber, verdict-number}
-use Rattle.reading.specs.Reading.{Reads, Row-at, reads-fault, Accepted, reads-end}
+use Rattle.reading.specs.Verdict.{verdict, placed, placed-verdict, rowNumber, verdict-number}
+use Rattle.reading.specs.Reading.{Reads, Row-at, reads-named, reads-fault, Accepted, reads-end}
 
 -- a fault is what was found, and where none was found the arrays hold the tree of all rows
 pub record HasRead (n : ℕ) (xs names lows small next last : List ℕ) (r : Found) : Type 0 where
@@ -27,15 +28,26 @@ pub record Told (n : ℕ) (xs old vector : List ℕ) (r : Found) : Type 0 where
   pub none-found : r .number ≡ 0 → tableFault n (rowsOf xs) ≡ none
   pub made : r .number ≡ 0 → vector ≡ vectorOf (tableTree n (rowsOf xs)) ++ drop n old
 
-pub read-fault : {n : ℕ} {xs : List ℕ} {t l r p x : ℕ} {named names lows small next last : List ℕ} → Reads n xs t named names lows small next last
-    → Row-at n xs t l r p → x ≡ verdict (flag named) (n + t) (l, r, p) → x ≢ 0 → HasRead n xs names lows small next last (record { number = x; row = t })
-read-fault {n} {xs} {t} {l} {r} {p} {named = named} R A e d = record {
+-- a row that is refused, whatever the arrays hold then
+read-fault : {n : ℕ} {xs : List ℕ} {t l r p x : ℕ} {names lows small next last names′ lows′ small′ next′ last′ : List ℕ} → Reads n xs t names lows small next last
+    → Row-at n xs t l r p → x ≡ verdict (taken (take t (rowsOf xs))) (n + t) (l, r, p) → x ≢ 0 → HasRead n xs names′ lows′ small′ next′ last′ (record { number = x; row = t })
+read-fault {n} {xs} {t} {l} {r} {p} R A e d = record {
   found = λ z. reads-fault R A (λ q. d (e ∙ q))
-      ∙ ap (λ (k : ℕ). some (k, t)) (sym (verdict-number (flag named) (n + t) (l, r, p) (λ q. d (e ∙ q))) ∙ ap rowNumber (sym e));
+      ∙ ap (λ (k : ℕ). some (k, t)) (sym (verdict-number (taken (take t (rowsOf xs))) (n + t) (l, r, p) (λ q. d (e ∙ q))) ∙ ap rowNumber (sym e));
   all = λ z. absurd (d z);
 }
 
-pub read-all : {n : ℕ} {xs : List ℕ} {t : ℕ} {named names lows small next last : List ℕ} → Reads n xs t named names lows small next last → n - 1 ≤ t
+pub read-placed : {n : ℕ} {xs : List ℕ} {t l r p x : ℕ} {names lows small next last names′ lows′ small′ next′ last′ : List ℕ} → Reads n xs t names lows small next last
+    → Row-at n xs t l r p → x ≡ placed (n + t) (l, r, p) → x ≢ 0 → HasRead n xs names′ lows′ small′ next′ last′ (record { number = x; row = t })
+read-placed {n} {xs} {t} {l} {r} {p} R A e d =
+    read-fault R A (e ∙ placed-verdict (taken (take t (rowsOf xs))) (n + t) (l, r, p) (λ q. d (e ∙ q))) d
+
+pub read-named : {n : ℕ} {xs : List ℕ} {t l r p x y : ℕ} {names lows small next last names₁ names₂ names′ lows′ small′ next′ last′ : List ℕ} → Reads n xs t names lows small next last
+    → Row-at n xs t l r p → placed (n + t) (l, r, p) ≡ 0 → x ≡ cell names l → names₁ ≡ set names l 65535 → y ≡ cell names₁ r → names₂ ≡ set names₁ r 65535 → 65535 ≤ max x y
+    → HasRead n xs names′ lows′ small′ next′ last′ (record { number = 7; row = t })
+read-named R A v ex e₁ ey e₂ h = read-fault R A (reads-named R A v ex e₁ ey e₂ h) (omega arith)
+
+pub read-all : {n : ℕ} {xs : List ℕ} {t : ℕ} {names lows small next last : List ℕ} → Reads n xs t names lows small next last → n - 1 ≤ t
     → HasRead n xs names lows small next last (record { number = 0; row = 0 })
 read-all R h = record { found = λ d. absurd (d refl); all = λ z. reads-end R h }
 

@@ -2,9 +2,9 @@
 ghost use mathlib.Core.Path.{_≡_};
 ghost use mathlib.Core.List.{List, _++_};
 ghost use Prim.Native.Nat.{ℕ, _+_, _-_, _*_, _≤_, _<_};
-ghost use lib.ListN.{length, drop};
+ghost use lib.ListN.{length, drop, set};
 ghost use Rattle.order.specs.Walk.{cell};
-ghost use Rattle.reading.specs.Verdict.{flag, verdict};
+ghost use Rattle.reading.specs.Verdict.{placed};
 ghost use Rattle.reading.specs.Reading.{Reads};
 ghost use Rattle.reading.specs.Told.{HasRead, Told};
 ghost use Rattle.reading.specs.Children.{Children, Added};
@@ -23,10 +23,9 @@ fn wide(x: u16) -> usize
     x as usize
 }
 
-// The verdict on a row whose parent must be p.
-fn row_verdict(named: &[u8], p: usize, l: usize, r: usize, parent: usize) -> u8
-    requires { ⌜ (p ≤ 2048) × (length (now named) ≡ 2048) ⌝ }
-    ensures { λ x. ⌜ x ≡ verdict (flag (now (named .entry))) p (l, r, parent) ⌝ }
+// The verdict on the numbers of a row whose parent must be p.
+fn row_verdict(p: usize, l: usize, r: usize, parent: usize) -> u8
+    ensures { λ x. ⌜ x ≡ placed p (l, r, parent) ⌝ }
 {
     if parent != p {
         return 5;
@@ -37,16 +36,17 @@ fn row_verdict(named: &[u8], p: usize, l: usize, r: usize, parent: usize) -> u8
     if p <= r {
         return 6;
     }
-    if named[l] != 0 {
-        return 7;
-    }
-    if named[r] != 0 {
-        return 7;
-    }
-    if l == r {
-        return 7;
-    }
     0
+}
+
+// The name of node c, or 65535 where a row has named it as a child: from now on this one has.
+fn take_name(names: &mut [u16], c: usize) -> usize
+    requires { ⌜ c < length (now names) ⌝ }
+    ensures { λ x. ⌜ (x ≡ cell (now (names .entry)) c) × (now (names .exit) ≡ set (now (names .entry)) c 65535) ⌝ }
+{
+    let x = wide(names[c]);
+    names[c] = 65535;
+    x
 }
 
 // Each leaf is its own name.
@@ -65,14 +65,13 @@ fn name_leaves(names: &mut [u16], n: usize)
 fn read_rows(
     n: usize,
     rows: &[u16],
-    named: &mut [u8],
     names: &mut [u16],
     lows: &mut [u16],
     small: &mut [u16],
     next: &mut [u16],
     last: &mut [u16],
 ) -> Found
-    requires { ⌜ Reads n (now rows) 0 (now named) (now names) (now lows) (now small) (now next) (now last) ⌝ }
+    requires { ⌜ Reads n (now rows) 0 (now names) (now lows) (now small) (now next) (now last) ⌝ }
     ensures { λ r. ⌜ HasRead n (now (rows .entry)) (now (names .exit)) (now (lows .exit)) (now (small .exit)) (now (next .exit)) (now (last .exit)) r ⌝ }
 {
     let count = n - 1;
@@ -80,13 +79,16 @@ fn read_rows(
     while t < count {
         let l = wide(rows[3 * t]);
         let r = wide(rows[3 * t + 1]);
-        let x = row_verdict(named, n + t, l, r, wide(rows[3 * t + 2]));
-        if x != 0 {
-            return Found { number: x, row: t };
+        let v = row_verdict(n + t, l, r, wide(rows[3 * t + 2]));
+        if v != 0 {
+            return Found { number: v, row: t };
         }
-        order::add_pair(names, lows, small, next, last, n + t, l, r);
-        named[l] = 1;
-        named[r] = 1;
+        let x = take_name(names, l);
+        let y = take_name(names, r);
+        if 65535 <= order::greater(x, y) {
+            return Found { number: 7, row: t };
+        }
+        order::add_pair(names, lows, small, next, last, n + t, l, r, x, y);
         t += 1;
     }
     Found { number: 0, row: 0 }
@@ -97,7 +99,6 @@ pub fn table_vector(n: usize, rows: &[u16], vector: &mut [u16]) -> Found
     requires { ⌜ (1 ≤ n) × (n ≤ 1024) × (length (now rows) ≡ 3 * (n - 1)) × (n ≤ length (now vector)) ⌝ }
     ensures { λ r. ⌜ Told n (now (rows .entry)) (now (vector .entry)) (now (vector .exit)) r ⌝ }
 {
-    let mut named = [0u8; 2048];
     let mut names = [0u16; 2048];
     let mut lows = [1024u16; 2048];
     let mut small = [0u16; 1024];
@@ -107,7 +108,6 @@ pub fn table_vector(n: usize, rows: &[u16], vector: &mut [u16]) -> Found
     let found = read_rows(
         n,
         rows,
-        &mut named,
         &mut names,
         &mut lows,
         &mut small,
@@ -140,7 +140,9 @@ fn add_children(
     while t < count {
         let l = wide(left[t]);
         let r = wide(right[t]);
-        order::add_pair(names, lows, small, next, last, n + t, l, r);
+        let x = wide(names[l]);
+        let y = wide(names[r]);
+        order::add_pair(names, lows, small, next, last, n + t, l, r, x, y);
         t += 1;
     }
 }

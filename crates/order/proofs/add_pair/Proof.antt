@@ -14,14 +14,20 @@ use Rattle.order.proofs.lesser.Reads as lesser-reads
 use Rattle.order.proofs.wide.Reads as wide-reads
 
 -- room for the row's names and its key
-here : (c : tie.After-lesser3) → (c .before .before .before .before .before .before .before .lesser .result < 1024) × (c .before .before .before .before .before .before .greater .result < 1024) × (c .lesser3 .result < 1024) × (c .before .before .before .before .before .before .greater .result < length (c .before .before .before .before .before .before .before .before .before .before .before .before .before .before .before .before .before .args .small .now)) × (c .before .before .before .before .before .before .greater .result < length (c .before .before .before .before .before .before .before .before .before .before .before .before .before .before .before .before .before .args .next .now)) × (c .lesser3 .result < length (c .before .before .before .before .before .before .before .before .before .before .before .before .before .before .before .before .before .args .last .now))
-here c = adds-room (c .before .before .before .before .before .before .before .before .before .before .before .before .before .before .before .before .before .pre .2) (c .before .before .before .before .before .before .before .before .before .before .wide .ensures) (c .before .before .before .before .before .before .before .before .wide2 .ensures) (c .before .before .before .before .before .before .before .lesser .ensures) (c .before .before .before .before .before .before .greater .ensures) (c .before .before .before .before .wide3 .ensures) (c .before .before .wide4 .ensures) (c .before .lesser2 .ensures) (c .lesser3 .ensures)
+here : (c : tie.After-lesser3) → (c .before .before .before .before .before .before .before .lesser .result < 1024) × (c .before .before .before .before .before .before .greater .result < 1024) × (c .lesser3 .result < 1024) × (c .before .before .before .before .before .before .greater .result < length (c .before .before .before .before .before .before .before .before .before .before .before .before .before .args .small .now)) × (c .before .before .before .before .before .before .greater .result < length (c .before .before .before .before .before .before .before .before .before .before .before .before .before .args .next .now)) × (c .lesser3 .result < length (c .before .before .before .before .before .before .before .before .before .before .before .before .before .args .last .now))
+here c = adds-room (c .before .before .before .before .before .before .before .before .before .before .before .before .before .pre .2) (c .before .before .before .before .before .before .before .lesser .ensures) (c .before .before .before .before .before .before .greater .ensures) (c .before .before .before .before .wide .ensures) (c .before .before .wide2 .ensures) (c .before .lesser2 .ensures) (c .lesser3 .ensures)
+
+lesser-requires : tie.Need-lesser-requires
+lesser-requires c κs = search needs
+
+greater-requires : tie.Need-greater-requires
+greater-requires c κs = search needs
 
 mul-wide : tie.Need-mul-wide
 mul-wide c = search needs
 
 slice-read-wide : tie.Need-slice-read-wide
-slice-read-wide c = omega (arith, adds-parent (c .before .before .before .before .before .before .pre .2))
+slice-read-wide c = omega (arith, adds-parent (c .before .before .before .before .before .before .before .before .pre .2))
 
 wide-requires : tie.Need-wide-requires
 wide-requires c κs = search needs
@@ -30,34 +36,10 @@ mul-wide-2 : tie.Need-mul-wide-2
 mul-wide-2 c = search needs
 
 slice-read-wide-2 : tie.Need-slice-read-wide-2
-slice-read-wide-2 c = omega (arith, adds-parent (c .before .before .before .before .before .before .before .before .pre .2))
+slice-read-wide-2 c = omega (arith, adds-parent (c .before .before .before .before .before .before .before .before .before .before .pre .2))
 
 wide-requires-2 : tie.Need-wide-requires-2
 wide-requires-2 c κs = search needs
-
-lesser-requires : tie.Need-lesser-requires
-lesser-requires c κs = search needs
-
-greater-requires : tie.Need-greater-requires
-greater-requires c κs = search needs
-
-mul-wide-3 : tie.Need-mul-wide-3
-mul-wide-3 c = search needs
-
-slice-read-wide-3 : tie.Need-slice-read-wide-3
-slice-read-wide-3 c = omega (arith, adds-parent (c .before .before .before .before .before .before .before .before .before .before .before .before .pre .2))
-
-wide-requires-3 : tie.Need-wide-requires-3
-wide-requires-3 c κs = search needs
-
-mul-wide-4 : tie.Need-mul-wide-4
-mul-wide-4 c = search needs
-
-slice-read-wide-4 : tie.Need-slice-read-wide-4
-slice-read-wide-4 c = omega (arith, adds-parent (c .before .before .before .before .before .before .before .before .before .before .before .before .before .before .pre .2))
-
-wide-requires-4 : tie.Need-wide-requires-4
-wide-requires-4 c κs = search needs
 
 lesser-requires-2 : tie.Need-lesser-requires-2
 lesser-requires-2 c κs = search needs
@@ -65,14 +47,14 @@ lesser-requires-2 c κs = search needs
 lesser-requires-3 : tie.Need-lesser-requires-3
 lesser-requires-3 c κs = search needs
 
-mul-wide-5 : tie.Need-mul-wide-5
-mul-wide-5 c = omega (arith, here c)
+mul-wide-3 : tie.Need-mul-wide-3
+mul-wide-3 c = omega (arith, here c)
 
-slice-read-wide-5 : tie.Need-slice-read-wide-5
-slice-read-wide-5 c = here (c .before) .5
+slice-read-wide-3 : tie.Need-slice-read-wide-3
+slice-read-wide-3 c = here (c .before) .5
 
-wide-requires-5 : tie.Need-wide-requires-5
-wide-requires-5 c κs = search needs
+wide-requires-3 : tie.Need-wide-requires-3
+wide-requires-3 c κs = search needs
 
 cast-small : tie.Need-cast-small
 cast-small c = omega (arith, here (c .before .before))
@@ -93,10 +75,10 @@ cast-next : tie.Need-cast-next
 cast-next c = omega (arith, here (c .before .before))
 
 mul-next-2 : tie.Need-mul-next-2
-mul-next-2 c = omega (arith, adds-last (c .before .before .before .before .before .before .before .before .before .before .before .before .before .before .before .before .before .before .before .pre .2) (c .before .before .before .before .before .before .before .before .before .before .before .before .wide .ensures) (c .before .before .before .before .before .before .before .before .before .before .wide2 .ensures) (c .before .before .before .before .before .before .before .before .before .lesser .ensures) (c .before .before .before .before .before .before .before .before .greater .ensures) (c .before .before .before .before .before .before .wide3 .ensures) (c .before .before .before .before .wide4 .ensures) (c .before .before .before .lesser2 .ensures) (c .before .before .lesser3 .ensures) (c .wide5 .ensures))
+mul-next-2 c = omega (arith, adds-last (c .before .before .before .before .before .before .before .before .before .before .before .before .before .before .before .pre .2) (c .before .before .before .before .before .before .before .before .before .lesser .ensures) (c .before .before .before .before .before .before .before .before .greater .ensures) (c .before .before .before .before .before .before .wide .ensures) (c .before .before .before .before .wide2 .ensures) (c .before .before .before .lesser2 .ensures) (c .before .before .lesser3 .ensures) (c .wide3 .ensures))
 
 slice-write-next-2 : tie.Need-slice-write-next-2
-slice-write-next-2 c = simp length-set (adds-last (c .before .before .before .before .before .before .before .before .before .before .before .before .before .before .before .before .before .before .before .pre .2) (c .before .before .before .before .before .before .before .before .before .before .before .before .wide .ensures) (c .before .before .before .before .before .before .before .before .before .before .wide2 .ensures) (c .before .before .before .before .before .before .before .before .before .lesser .ensures) (c .before .before .before .before .before .before .before .before .greater .ensures) (c .before .before .before .before .before .before .wide3 .ensures) (c .before .before .before .before .wide4 .ensures) (c .before .before .before .lesser2 .ensures) (c .before .before .lesser3 .ensures) (c .wide5 .ensures))
+slice-write-next-2 c = simp length-set (adds-last (c .before .before .before .before .before .before .before .before .before .before .before .before .before .before .before .pre .2) (c .before .before .before .before .before .before .before .before .before .lesser .ensures) (c .before .before .before .before .before .before .before .before .greater .ensures) (c .before .before .before .before .before .before .wide .ensures) (c .before .before .before .before .wide2 .ensures) (c .before .before .before .lesser2 .ensures) (c .before .before .lesser3 .ensures) (c .wide3 .ensures))
 
 cast-last : tie.Need-cast-last
 cast-last c = omega (arith, here (c .before .before))
@@ -111,19 +93,19 @@ cast-names : tie.Need-cast-names
 cast-names c = omega (arith, here (c .before .before))
 
 mul-names : tie.Need-mul-names
-mul-names c = search needs
+mul-names c = omega (arith, adds-parent (c .before .before .before .before .before .before .before .before .before .before .before .before .before .before .before .pre .2))
 
 slice-write-names : tie.Need-slice-write-names
-slice-write-names c = adds-parent (c .before .before .before .before .before .before .before .before .before .before .before .before .before .before .before .before .before .before .before .pre .2) .0
+slice-write-names c = adds-parent (c .before .before .before .before .before .before .before .before .before .before .before .before .before .before .before .pre .2) .0
 
 cast-lows : tie.Need-cast-lows
 cast-lows c = omega (arith, here (c .before .before))
 
 mul-lows : tie.Need-mul-lows
-mul-lows c = search needs
+mul-lows c = omega (arith, adds-parent (c .before .before .before .before .before .before .before .before .before .before .before .before .before .before .before .pre .2))
 
 slice-write-lows : tie.Need-slice-write-lows
-slice-write-lows c = adds-parent (c .before .before .before .before .before .before .before .before .before .before .before .before .before .before .before .before .before .before .before .pre .2) .1
+slice-write-lows c = adds-parent (c .before .before .before .before .before .before .before .before .before .before .before .before .before .before .before .pre .2) .1
 
 same-length : tie.Need-same-length
 same-length c = search needs
@@ -141,31 +123,25 @@ same-length-5 : tie.Need-same-length-5
 same-length-5 c = search needs
 
 returns : tie.Need-returns
-returns c = λ n rs A. built-next A (c .before .before .before .before .before .before .before .before .before .before .before .before .wide .ensures) (c .before .before .before .before .before .before .before .before .before .before .wide2 .ensures) (c .before .before .before .before .before .before .before .before .before .lesser .ensures) (c .before .before .before .before .before .before .before .before .greater .ensures) (c .before .before .before .before .before .before .wide3 .ensures) (c .before .before .before .before .wide4 .ensures) (c .before .before .before .lesser2 .ensures) (c .before .before .lesser3 .ensures) (c .wide5 .ensures)
+returns c = (λ n rs A. built-next A (c .before .before .before .before .before .before .before .before .before .lesser .ensures) (c .before .before .before .before .before .before .before .before .greater .ensures) (c .before .before .before .before .before .before .wide .ensures) (c .before .before .before .before .wide2 .ensures) (c .before .before .before .lesser2 .ensures) (c .before .before .lesser3 .ensures) (c .wide3 .ensures), ap (set (c .before .before .before .before .before .before .before .before .before .before .before .before .before .before .before .args .names .now) (c .before .before .before .before .before .before .before .before .before .before .before .before .before .before .before .args .p)) (c .before .before .before .before .before .before .before .before .before .lesser .ensures))
 
 pub add-pair-spec : {M : Type 1} → statement M
 add-pair-spec =
     tie.close
     (tie.spec
+    lesser-requires
+    greater-requires
     mul-wide
     slice-read-wide
     wide-requires
     mul-wide-2
     slice-read-wide-2
     wide-requires-2
-    lesser-requires
-    greater-requires
+    lesser-requires-2
+    lesser-requires-3
     mul-wide-3
     slice-read-wide-3
     wide-requires-3
-    mul-wide-4
-    slice-read-wide-4
-    wide-requires-4
-    lesser-requires-2
-    lesser-requires-3
-    mul-wide-5
-    slice-read-wide-5
-    wide-requires-5
     cast-small
     mul-small
     slice-write-small

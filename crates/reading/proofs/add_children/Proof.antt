@@ -1,8 +1,8 @@
 use mathlib.Core.Path.{_≡_, refl}
 use Prim.Native.Nat.{_-_}
-use native.Mathlib.Omega.{arith}
 use Rattle.reading.specs.Reading.{Lengths}
-use Rattle.reading.specs.Children.{Added, some-adds, added-next, added-all}
+use Rattle.reading.specs.Children.{Added, added-inside, some-adds, added-next, added-all}
+use native.Mathlib.Omega.{arith}
 use borrow.Author.Needs.{needs}
 use Rattle.reading.proofs.add_children.Statement.{statement}
 use Rattle.reading.proofs.add_children.Tie as tie
@@ -13,7 +13,7 @@ use Rattle.reading.proofs.wide.Reads as wide-reads
 
 abbrev Inv-loop : tie.InvT-loop
 Inv-loop n left right names₀ lows₀ small₀ next₀ last₀ count t₀ names lows small next last t =
-    Added n left right t names lows small next last × Lengths left names₀ lows₀ small₀ next₀ last₀ left names lows small next last × (count ≡ n - 1)
+    Added n left right t names lows small next last × Lengths names₀ lows₀ small₀ next₀ last₀ names lows small next last × (count ≡ n - 1)
 
 abbrev μ-loop : tie.MeasureT-loop
 μ-loop n left right names₀ lows₀ small₀ next₀ last₀ count t₀ names lows small next last t = count - t
@@ -22,7 +22,7 @@ sub-count : tie.Need-sub-count Inv-loop μ-loop
 sub-count c = search needs
 
 loop-holds : tie.Need-loop-holds Inv-loop μ-loop
-loop-holds c = (c .before .before .before .before .before .before .before .pre .1, record { of-named = refl; of-names = refl; of-lows = refl; of-small = refl; of-next = refl; of-last = refl }, refl)
+loop-holds c = (c .before .before .before .before .before .before .before .pre .1, record { of-names = refl; of-lows = refl; of-small = refl; of-next = refl; of-last = refl }, refl)
 
 mul-wide : tie.Need-mul-wide Inv-loop μ-loop
 mul-wide c = search needs
@@ -42,11 +42,29 @@ shared-slice-read-wide-2 c = search needs
 wide-requires-2 : tie.Need-wide-requires-2 Inv-loop μ-loop
 wide-requires-2 c κs = search needs
 
+mul-wide-3 : tie.Need-mul-wide-3 Inv-loop μ-loop
+mul-wide-3 c = omega (arith, added-inside (c .before .before .before .before .before .loop .inv .0) (omega arith) (c .before .before .wide .ensures) (c .wide2 .ensures))
+
+slice-read-wide : tie.Need-slice-read-wide Inv-loop μ-loop
+slice-read-wide c = added-inside (c .before .before .before .before .before .before .loop .inv .0) (omega arith) (c .before .before .before .wide .ensures) (c .before .wide2 .ensures) .0
+
+wide-requires-3 : tie.Need-wide-requires-3 Inv-loop μ-loop
+wide-requires-3 c κs = search needs
+
+mul-wide-4 : tie.Need-mul-wide-4 Inv-loop μ-loop
+mul-wide-4 c = omega (arith, added-inside (c .before .before .before .before .before .before .before .loop .inv .0) (omega arith) (c .before .before .before .before .wide .ensures) (c .before .before .wide2 .ensures))
+
+slice-read-wide-2 : tie.Need-slice-read-wide-2 Inv-loop μ-loop
+slice-read-wide-2 c = added-inside (c .before .before .before .before .before .before .before .before .loop .inv .0) (omega arith) (c .before .before .before .before .before .wide .ensures) (c .before .before .before .wide2 .ensures) .1
+
+wide-requires-4 : tie.Need-wide-requires-4 Inv-loop μ-loop
+wide-requires-4 c κs = search needs
+
 add-add-pair : tie.Need-add-add-pair Inv-loop μ-loop
 add-add-pair c = search needs
 
 add-pair-requires : tie.Need-add-pair-requires Inv-loop μ-loop
-add-pair-requires c κs = some-adds (c .before .before .before .before .before .before .before .before .before .before .loop .inv .0) (omega arith) (c .before .before .before .before .before .before .before .wide .ensures) (c .before .before .before .before .before .wide2 .ensures)
+add-pair-requires c κs = some-adds (c .before .before .before .before .before .before .before .before .before .before .before .before .before .before .loop .inv .0) (omega arith) (c .before .before .before .before .before .before .before .before .before .before .before .wide .ensures) (c .before .before .before .before .before .before .before .before .before .wide2 .ensures) (c .before .before .before .before .before .before .before .wide3 .ensures) (c .before .before .before .before .before .wide4 .ensures)
 
 add-t : tie.Need-add-t Inv-loop μ-loop
 add-t c = search needs
@@ -56,9 +74,9 @@ loop-less c = search needs
 
 loop-again : tie.Need-loop-again Inv-loop μ-loop
 loop-again c = (
-  added-next (c .before .before .before .before .before .before .before .before .before .before .before .before .before .before .before .before .before .before .before .before .before .loop .inv .0) (omega arith) (c .before .before .before .before .before .before .before .before .before .before .before .before .before .before .before .before .before .before .wide .ensures) (c .before .before .before .before .before .before .before .before .before .before .before .before .before .before .before .before .wide2 .ensures) (c .before .before .before .before .before .before .before .before .before .before .add-pair .ensures),
-  record { of-named = refl; of-names = omega (arith, c .before .before .before .before .before .before .before .before .before .before .add-pair .kept); of-lows = omega (arith, c .before .before .before .before .before .before .before .before .before .before .add-pair .kept); of-small = omega (arith, c .before .before .before .before .before .before .before .before .before .before .add-pair .kept); of-next = omega (arith, c .before .before .before .before .before .before .before .before .before .before .add-pair .kept); of-last = omega (arith, c .before .before .before .before .before .before .before .before .before .before .add-pair .kept) },
-  c .before .before .before .before .before .before .before .before .before .before .before .before .before .before .before .before .before .before .before .before .before .loop .inv .2,
+  added-next (c .before .before .before .before .before .before .before .before .before .before .before .before .before .before .before .before .before .before .before .before .before .before .before .before .before .loop .inv .0) (omega arith) (c .before .before .before .before .before .before .before .before .before .before .before .before .before .before .before .before .before .before .before .before .before .before .wide .ensures) (c .before .before .before .before .before .before .before .before .before .before .before .before .before .before .before .before .before .before .before .before .wide2 .ensures) (c .before .before .before .before .before .before .before .before .before .before .before .before .before .before .before .before .before .before .wide3 .ensures) (c .before .before .before .before .before .before .before .before .before .before .before .before .before .before .before .before .wide4 .ensures) (c .before .before .before .before .before .before .before .before .before .before .add-pair .ensures .0),
+  record { of-names = omega (arith, c .before .before .before .before .before .before .before .before .before .before .add-pair .kept); of-lows = omega (arith, c .before .before .before .before .before .before .before .before .before .before .add-pair .kept); of-small = omega (arith, c .before .before .before .before .before .before .before .before .before .before .add-pair .kept); of-next = omega (arith, c .before .before .before .before .before .before .before .before .before .before .add-pair .kept); of-last = omega (arith, c .before .before .before .before .before .before .before .before .before .before .add-pair .kept) },
+  c .before .before .before .before .before .before .before .before .before .before .before .before .before .before .before .before .before .before .before .before .before .before .before .before .before .loop .inv .2,
 )
 
 same-length : tie.Need-same-length Inv-loop μ-loop
@@ -93,6 +111,12 @@ add-children-spec =
     mul-wide-2
     shared-slice-read-wide-2
     wide-requires-2
+    mul-wide-3
+    slice-read-wide
+    wide-requires-3
+    mul-wide-4
+    slice-read-wide-2
+    wide-requires-4
     add-add-pair
     add-pair-requires
     add-t

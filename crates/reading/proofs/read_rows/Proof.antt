@@ -1,31 +1,32 @@
 use mathlib.Core.Path.{_≡_, refl, sym, _∙_}
 use Prim.Native.Nat.{_-_}
+use lib.ListN.{length-set}
+use Rattle.reading.specs.Reading.{Reads, Lengths, Row-at, reads-inside, adds-some, reads-next}
+use Rattle.reading.specs.Told.{read-placed, read-named, read-all}
 use native.Mathlib.Omega.{arith}
-use lib.ListN.{length-set, take}
-use Rattle.rules.specs.Table.{rowsOf}
-use Rattle.reading.specs.Reading.{Reads, Lengths, Row-at, adds-some, reads-more, reads-inside}
-use Rattle.reading.specs.Told.{read-fault, read-all}
 use borrow.Author.Needs.{needs}
 use Rattle.reading.proofs.read_rows.Statement.{statement}
 use Rattle.reading.proofs.read_rows.Tie as tie
 use Rattle.reading.proofs.read_rows.Reads as reads
 use Rattle.reading.proofs.read_rows.Lts as lts
 use Rattle.order.proofs.add_pair.Reads as add-pair-reads
+use Rattle.order.proofs.greater.Reads as greater-reads
 use Rattle.reading.proofs.row_verdict.Reads as row-verdict-reads
+use Rattle.reading.proofs.take_name.Reads as take-name-reads
 use Rattle.reading.proofs.wide.Reads as wide-reads
 
 abbrev Inv-loop : tie.InvT-loop
-Inv-loop n rows named₀ names₀ lows₀ small₀ next₀ last₀ count t₀ named names lows small next last t =
-    Reads n rows t named names lows small next last × Lengths named₀ names₀ lows₀ small₀ next₀ last₀ named names lows small next last × (count ≡ n - 1)
+Inv-loop n rows names₀ lows₀ small₀ next₀ last₀ count t₀ names lows small next last t =
+    Reads n rows t names lows small next last × Lengths names₀ lows₀ small₀ next₀ last₀ names lows small next last × (count ≡ n - 1)
 
 abbrev μ-loop : tie.MeasureT-loop
-μ-loop n rows named₀ names₀ lows₀ small₀ next₀ last₀ count t₀ named names lows small next last t = count - t
+μ-loop n rows names₀ lows₀ small₀ next₀ last₀ count t₀ names lows small next last t = count - t
 
 sub-count : tie.Need-sub-count Inv-loop μ-loop
 sub-count c = search needs
 
 loop-holds : tie.Need-loop-holds Inv-loop μ-loop
-loop-holds c = (c .before .before .before .before .before .before .before .pre, record { of-named = refl; of-names = refl; of-lows = refl; of-small = refl; of-next = refl; of-last = refl }, refl)
+loop-holds c = (c .before .before .before .before .before .before .pre, record { of-names = refl; of-lows = refl; of-small = refl; of-next = refl; of-last = refl }, refl)
 
 mul-wide : tie.Need-mul-wide Inv-loop μ-loop
 mul-wide c = search needs
@@ -73,7 +74,7 @@ wide-requires-3 : tie.Need-wide-requires-3 Inv-loop μ-loop
 wide-requires-3 c κs = search needs
 
 row-verdict-requires : tie.Need-row-verdict-requires Inv-loop μ-loop
-row-verdict-requires c κs = (omega arith, c .before .before .before .before .before .before .before .before .loop .inv .0 .room)
+row-verdict-requires c κs = search needs
 
 same-length : tie.Need-same-length Inv-loop μ-loop
 same-length c = search needs
@@ -90,38 +91,20 @@ same-length-4 c = search needs
 same-length-5 : tie.Need-same-length-5 Inv-loop μ-loop
 same-length-5 c = search needs
 
+returns : tie.Need-returns Inv-loop μ-loop
+returns c = read-placed (c .before .before .before .before .before .before .before .before .before .loop .inv .0) (record { inside = omega arith; first = sym (c .before .before .before .before .before .before .wide .ensures); second = sym (c .before .before .before .before .wide2 .ensures); parent = sym (c .before .before .wide3 .ensures) }) (c .before .row-verdict .ensures) (c .if1 .taken)
+
+take-name-requires : tie.Need-take-name-requires Inv-loop μ-loop
+take-name-requires c κs = reads-inside (c .before .before .before .before .before .before .before .before .before .before .loop .inv .0) (record { inside = omega arith; first = sym (c .before .before .before .before .before .before .before .wide .ensures); second = sym (c .before .before .before .before .before .wide2 .ensures); parent = sym (c .before .before .before .wide3 .ensures) }) (sym (c .before .before .row-verdict .ensures) ∙ c .before .if1 .left) .0
+
+take-name-requires-2 : tie.Need-take-name-requires-2 Inv-loop μ-loop
+take-name-requires-2 c κs = omega (arith, c .before .before .before .take-name .kept, reads-inside (c .before .before .before .before .before .before .before .before .before .before .before .before .before .before .loop .inv .0) (record { inside = omega arith; first = sym (c .before .before .before .before .before .before .before .before .before .before .before .wide .ensures); second = sym (c .before .before .before .before .before .before .before .before .before .wide2 .ensures); parent = sym (c .before .before .before .before .before .before .before .wide3 .ensures) }) (sym (c .before .before .before .before .before .before .row-verdict .ensures) ∙ c .before .before .before .before .before .if1 .left))
+
+greater-requires : tie.Need-greater-requires Inv-loop μ-loop
+greater-requires c κs = search needs
+
 same-length-6 : tie.Need-same-length-6 Inv-loop μ-loop
 same-length-6 c = search needs
-
-returns : tie.Need-returns Inv-loop μ-loop
-returns c = read-fault (c .before .before .before .before .before .before .before .before .before .before .loop .inv .0) (record { inside = omega arith; first = sym (c .before .before .before .before .before .before .before .wide .ensures); second = sym (c .before .before .before .before .before .wide2 .ensures); parent = sym (c .before .before .wide3 .ensures) }) (c .before .row-verdict .ensures) (c .if1 .taken)
-
-add-add-pair : tie.Need-add-add-pair Inv-loop μ-loop
-add-add-pair c = search needs
-
-add-pair-requires : tie.Need-add-pair-requires Inv-loop μ-loop
-add-pair-requires c κs = adds-some (c .before .before .before .before .before .before .before .before .before .before .before .before .before .before .before .loop .inv .0) (record { inside = omega arith; first = sym (c .before .before .before .before .before .before .before .before .before .before .before .before .wide .ensures); second = sym (c .before .before .before .before .before .before .before .before .before .before .wide2 .ensures); parent = sym (c .before .before .before .before .before .before .before .wide3 .ensures) }) (sym (c .before .before .before .before .before .before .row-verdict .ensures) ∙ c .before .before .before .before .before .if1 .left)
-
-slice-write-named : tie.Need-slice-write-named Inv-loop μ-loop
-slice-write-named c = reads-inside _ _ _ (c .before .before .before .before .before .before .before .before .before .before .before .before .before .before .before .before .before .before .before .before .before .before .before .before .before .before .loop .inv .0) (omega arith) (sym (c .before .before .before .before .before .before .before .before .before .before .before .before .before .before .before .before .before .row-verdict .ensures) ∙ c .before .before .before .before .before .before .before .before .before .before .before .before .before .before .before .before .if1 .left) .0
-
-slice-write-named-2 : tie.Need-slice-write-named-2 Inv-loop μ-loop
-slice-write-named-2 c = simp length-set (reads-inside _ _ _ (c .before .before .before .before .before .before .before .before .before .before .before .before .before .before .before .before .before .before .before .before .before .before .before .before .before .before .loop .inv .0) (omega arith) (sym (c .before .before .before .before .before .before .before .before .before .before .before .before .before .before .before .before .before .row-verdict .ensures) ∙ c .before .before .before .before .before .before .before .before .before .before .before .before .before .before .before .before .if1 .left) .1)
-
-add-t : tie.Need-add-t Inv-loop μ-loop
-add-t c = search needs
-
-loop-less : tie.Need-loop-less Inv-loop μ-loop
-loop-less c = search needs
-
-loop-again : tie.Need-loop-again Inv-loop μ-loop
-loop-again c = (
-  reads-more (c .before .before .before .before .before .before .before .before .before .before .before .before .before .before .before .before .before .before .before .before .before .before .before .before .before .before .loop .inv .0)
-      (record { inside = omega arith; first = sym (c .before .before .before .before .before .before .before .before .before .before .before .before .before .before .before .before .before .before .before .before .before .before .before .wide .ensures); second = sym (c .before .before .before .before .before .before .before .before .before .before .before .before .before .before .before .before .before .before .before .before .before .wide2 .ensures); parent = sym (c .before .before .before .before .before .before .before .before .before .before .before .before .before .before .before .before .before .before .wide3 .ensures) })
-      (sym (c .before .before .before .before .before .before .before .before .before .before .before .before .before .before .before .before .before .row-verdict .ensures) ∙ c .before .before .before .before .before .before .before .before .before .before .before .before .before .before .before .before .if1 .left) (c .before .before .before .before .before .before .before .before .before .before .add-pair .ensures),
-  record { of-named = simp length-set (c .before .before .before .before .before .before .before .before .before .before .before .before .before .before .before .before .before .before .before .before .before .before .before .before .before .before .loop .inv .1 .of-named); of-names = omega (arith, c .before .before .before .before .before .before .before .before .before .before .add-pair .kept); of-lows = omega (arith, c .before .before .before .before .before .before .before .before .before .before .add-pair .kept); of-small = omega (arith, c .before .before .before .before .before .before .before .before .before .before .add-pair .kept); of-next = omega (arith, c .before .before .before .before .before .before .before .before .before .before .add-pair .kept); of-last = omega (arith, c .before .before .before .before .before .before .before .before .before .before .add-pair .kept) },
-  c .before .before .before .before .before .before .before .before .before .before .before .before .before .before .before .before .before .before .before .before .before .before .before .before .before .before .loop .inv .2,
-)
 
 same-length-7 : tie.Need-same-length-7 Inv-loop μ-loop
 same-length-7 c = search needs
@@ -135,14 +118,46 @@ same-length-9 c = search needs
 same-length-10 : tie.Need-same-length-10 Inv-loop μ-loop
 same-length-10 c = search needs
 
+returns-2 : tie.Need-returns-2 Inv-loop μ-loop
+returns-2 c = read-named (c .before .before .before .before .before .before .before .before .before .before .before .before .before .before .before .before .before .before .before .loop .inv .0) (record { inside = omega arith; first = sym (c .before .before .before .before .before .before .before .before .before .before .before .before .before .before .before .before .wide .ensures); second = sym (c .before .before .before .before .before .before .before .before .before .before .before .before .before .before .wide2 .ensures); parent = sym (c .before .before .before .before .before .before .before .before .before .before .before .before .wide3 .ensures) }) (sym (c .before .before .before .before .before .before .before .before .before .before .before .row-verdict .ensures) ∙ c .before .before .before .before .before .before .before .before .before .before .if1 .left) (c .before .before .before .before .before .before .before .before .take-name .ensures .0) (c .before .before .before .before .before .before .before .before .take-name .ensures .1) (c .before .before .before .before .take-name2 .ensures .0) (c .before .before .before .before .take-name2 .ensures .1) (omega (arith, c .before .greater .ensures, c .if2 .taken))
+
+add-add-pair : tie.Need-add-add-pair Inv-loop μ-loop
+add-add-pair c = search needs
+
+add-pair-requires : tie.Need-add-pair-requires Inv-loop μ-loop
+add-pair-requires c κs = adds-some (c .before .before .before .before .before .before .before .before .before .before .before .before .before .before .before .before .before .before .before .before .before .before .before .before .loop .inv .0) (record { inside = omega arith; first = sym (c .before .before .before .before .before .before .before .before .before .before .before .before .before .before .before .before .before .before .before .before .before .wide .ensures); second = sym (c .before .before .before .before .before .before .before .before .before .before .before .before .before .before .before .before .before .before .before .wide2 .ensures); parent = sym (c .before .before .before .before .before .before .before .before .before .before .before .before .before .before .before .before .before .wide3 .ensures) }) (sym (c .before .before .before .before .before .before .before .before .before .before .before .before .before .before .before .before .row-verdict .ensures) ∙ c .before .before .before .before .before .before .before .before .before .before .before .before .before .before .before .if1 .left) (c .before .before .before .before .before .before .before .before .before .before .before .before .before .take-name .ensures .0) (c .before .before .before .before .before .before .before .before .before .before .before .before .before .take-name .ensures .1) (c .before .before .before .before .before .before .before .before .before .take-name2 .ensures .0) (c .before .before .before .before .before .before .before .before .before .take-name2 .ensures .1) (omega (arith, c .before .before .before .before .before .before .greater .ensures, c .before .before .before .before .before .if2 .left))
+
+add-t : tie.Need-add-t Inv-loop μ-loop
+add-t c = omega (arith, c .before .before .before .before .before .before .before .before .before .before .before .before .before .before .before .before .before .before .before .before .before .before .before .before .before .before .before .before .before .before .before .before .before .before .loop-test .taken, c .before .before .before .before .before .before .before .before .before .before .before .before .before .before .before .before .before .before .before .before .before .before .before .before .before .before .before .before .before .before .before .before .before .before .before .loop .inv .2, c .before .before .before .before .before .before .before .before .before .before .before .before .before .before .before .before .before .before .before .before .before .before .before .before .before .before .before .before .before .before .before .before .before .before .before .before .before .before .before .before .before .before .pre .few)
+
+loop-less : tie.Need-loop-less Inv-loop μ-loop
+loop-less c = search needs
+
+loop-again : tie.Need-loop-again Inv-loop μ-loop
+loop-again c = (
+  reads-next (c .before .before .before .before .before .before .before .before .before .before .before .before .before .before .before .before .before .before .before .before .before .before .before .before .before .before .before .before .before .before .before .before .before .before .before .loop .inv .0) (record { inside = omega arith; first = sym (c .before .before .before .before .before .before .before .before .before .before .before .before .before .before .before .before .before .before .before .before .before .before .before .before .before .before .before .before .before .before .before .before .wide .ensures); second = sym (c .before .before .before .before .before .before .before .before .before .before .before .before .before .before .before .before .before .before .before .before .before .before .before .before .before .before .before .before .before .before .wide2 .ensures); parent = sym (c .before .before .before .before .before .before .before .before .before .before .before .before .before .before .before .before .before .before .before .before .before .before .before .before .before .before .before .before .wide3 .ensures) }) (sym (c .before .before .before .before .before .before .before .before .before .before .before .before .before .before .before .before .before .before .before .before .before .before .before .before .before .before .before .row-verdict .ensures) ∙ c .before .before .before .before .before .before .before .before .before .before .before .before .before .before .before .before .before .before .before .before .before .before .before .before .before .before .if1 .left) (c .before .before .before .before .before .before .before .before .before .before .before .before .before .before .before .before .before .before .before .before .before .before .before .before .take-name .ensures .0) (c .before .before .before .before .before .before .before .before .before .before .before .before .before .before .before .before .before .before .before .before .before .before .before .before .take-name .ensures .1) (c .before .before .before .before .before .before .before .before .before .before .before .before .before .before .before .before .before .before .before .before .take-name2 .ensures .0) (c .before .before .before .before .before .before .before .before .before .before .before .before .before .before .before .before .before .before .before .before .take-name2 .ensures .1)
+      (omega (arith, c .before .before .before .before .before .before .before .before .before .before .before .before .before .before .before .before .before .greater .ensures, c .before .before .before .before .before .before .before .before .before .before .before .before .before .before .before .before .if2 .left)) (c .before .before .before .before .before .before .before .before .before .before .add-pair .ensures .1) (c .before .before .before .before .before .before .before .before .before .before .add-pair .ensures .0),
+  record { of-names = omega (arith, c .before .before .before .before .before .before .before .before .before .before .add-pair .kept, c .before .before .before .before .before .before .before .before .before .before .before .before .before .before .before .before .before .before .before .before .take-name2 .kept, c .before .before .before .before .before .before .before .before .before .before .before .before .before .before .before .before .before .before .before .before .before .before .before .before .take-name .kept, c .before .before .before .before .before .before .before .before .before .before .before .before .before .before .before .before .before .before .before .before .before .before .before .before .before .before .before .before .before .before .before .before .before .before .before .loop .inv .1 .of-names); of-lows = omega (arith, c .before .before .before .before .before .before .before .before .before .before .add-pair .kept, c .before .before .before .before .before .before .before .before .before .before .before .before .before .before .before .before .before .before .before .before .before .before .before .before .before .before .before .before .before .before .before .before .before .before .before .loop .inv .1 .of-lows); of-small = omega (arith, c .before .before .before .before .before .before .before .before .before .before .add-pair .kept, c .before .before .before .before .before .before .before .before .before .before .before .before .before .before .before .before .before .before .before .before .before .before .before .before .before .before .before .before .before .before .before .before .before .before .before .loop .inv .1 .of-small); of-next = omega (arith, c .before .before .before .before .before .before .before .before .before .before .add-pair .kept, c .before .before .before .before .before .before .before .before .before .before .before .before .before .before .before .before .before .before .before .before .before .before .before .before .before .before .before .before .before .before .before .before .before .before .before .loop .inv .1 .of-next); of-last = omega (arith, c .before .before .before .before .before .before .before .before .before .before .add-pair .kept, c .before .before .before .before .before .before .before .before .before .before .before .before .before .before .before .before .before .before .before .before .before .before .before .before .before .before .before .before .before .before .before .before .before .before .before .loop .inv .1 .of-last) },
+  c .before .before .before .before .before .before .before .before .before .before .before .before .before .before .before .before .before .before .before .before .before .before .before .before .before .before .before .before .before .before .before .before .before .before .before .loop .inv .2,
+)
+
 same-length-11 : tie.Need-same-length-11 Inv-loop μ-loop
 same-length-11 c = search needs
 
 same-length-12 : tie.Need-same-length-12 Inv-loop μ-loop
 same-length-12 c = search needs
 
-returns-2 : tie.Need-returns-2 Inv-loop μ-loop
-returns-2 c = read-all (c .before .loop .inv .0) (omega arith)
+same-length-13 : tie.Need-same-length-13 Inv-loop μ-loop
+same-length-13 c = search needs
+
+same-length-14 : tie.Need-same-length-14 Inv-loop μ-loop
+same-length-14 c = search needs
+
+same-length-15 : tie.Need-same-length-15 Inv-loop μ-loop
+same-length-15 c = search needs
+
+returns-3 : tie.Need-returns-3 Inv-loop μ-loop
+returns-3 c = read-all (c .before .loop .inv .0) (omega arith)
 
 pub read-rows-spec : {M : Type 1} → statement M
 read-rows-spec =
@@ -173,19 +188,24 @@ read-rows-spec =
     same-length-3
     same-length-4
     same-length-5
-    same-length-6
     returns
-    add-add-pair
-    add-pair-requires
-    slice-write-named
-    slice-write-named-2
-    add-t
-    loop-less
-    loop-again
+    take-name-requires
+    take-name-requires-2
+    greater-requires
+    same-length-6
     same-length-7
     same-length-8
     same-length-9
     same-length-10
+    returns-2
+    add-add-pair
+    add-pair-requires
+    add-t
+    loop-less
+    loop-again
     same-length-11
     same-length-12
-    returns-2)
+    same-length-13
+    same-length-14
+    same-length-15
+    returns-3)

@@ -1,6 +1,5 @@
-use mathlib.Core.Path.{refl}
 use Rattle.reading.specs.Leaves.{built-leaves}
-use Rattle.reading.specs.Reading.{reads-start, zeros}
+use Rattle.reading.specs.Reading.{reads-start}
 use Rattle.reading.specs.Told.{drawn, some-drawn, told-fault, told-vector}
 use native.Mathlib.Omega.{arith}
 use borrow.Author.Needs.{needs}
@@ -33,11 +32,8 @@ slice-aggregate-read-rows-4 c = search needs
 slice-aggregate-read-rows-5 : tie.Need-slice-aggregate-read-rows-5
 slice-aggregate-read-rows-5 c = search needs
 
-slice-aggregate-read-rows-6 : tie.Need-slice-aggregate-read-rows-6
-slice-aggregate-read-rows-6 c = search needs
-
 read-rows-requires : tie.Need-read-rows-requires
-read-rows-requires c κs = reads-start (c .before .before .before .before .before .before .before .before .before .before .before .pre .0) (c .before .before .before .before .before .before .before .before .before .before .before .pre .1) (c .before .before .before .before .before .before .before .before .before .before .before .pre .2) refl (zeros 2048) (built-leaves (c .before .before .before .before .before .before .before .before .before .before .before .pre .1) (search needs) (c .before .before .before .before .before .before .before .name-leaves .ensures))
+read-rows-requires c κs = reads-start (c .before .before .before .before .before .before .before .before .before .before .pre .0) (c .before .before .before .before .before .before .before .before .before .before .pre .1) (c .before .before .before .before .before .before .before .before .before .before .pre .2) (built-leaves (c .before .before .before .before .before .before .before .before .before .before .pre .1) (search needs) (c .before .before .before .before .before .before .name-leaves .ensures))
 
 slice-aggregate-vector-of : tie.Need-slice-aggregate-vector-of
 slice-aggregate-vector-of c = search needs
@@ -49,17 +45,17 @@ slice-aggregate-vector-of-3 : tie.Need-slice-aggregate-vector-of-3
 slice-aggregate-vector-of-3 c = search needs
 
 vector-of-requires : tie.Need-vector-of-requires
-vector-of-requires c κs = (some-drawn (c .before .before .before .before .before .before .before .before .before .before .before .before .read-rows .ensures .all (c .before .before .before .before .if1 .taken)) (c .before .before .before .before .before .before .before .before .before .before .before .before .before .before .before .before .before .before .before .before .before .before .before .before .pre .0), c .before .before .before .before .before .before .before .before .before .before .before .before .before .before .before .before .before .before .before .before .before .before .before .before .pre .3)
+vector-of-requires c κs = (some-drawn (c .before .before .before .before .before .before .before .before .before .before .before .read-rows .ensures .all (c .before .before .before .before .if1 .taken)) (c .before .before .before .before .before .before .before .before .before .before .before .before .before .before .before .before .before .before .before .before .before .before .pre .0), c .before .before .before .before .before .before .before .before .before .before .before .before .before .before .before .before .before .before .before .before .before .before .pre .3)
 
 same-length : tie.Need-same-length
 same-length c = search needs
 
 returns : tie.Need-returns
-returns c = let H = c .before .before .before .before .before .before .before .before .before .before .before .before .before .before .before .read-rows .ensures in
-    told-vector H (c .before .before .before .before .before .before .before .if1 .taken) (c .before .before .vector-of .ensures _ (drawn (H .all (c .before .before .before .before .before .before .before .if1 .taken)) (c .before .before .before .before .before .before .before .before .before .before .before .before .before .before .before .before .before .before .before .before .before .before .before .before .before .before .before .pre .0)))
+returns c = let H = c .before .before .before .before .before .before .before .before .before .before .before .before .before .before .read-rows .ensures in
+    told-vector H (c .before .before .before .before .before .before .before .if1 .taken) (c .before .before .vector-of .ensures _ (drawn (H .all (c .before .before .before .before .before .before .before .if1 .taken)) (c .before .before .before .before .before .before .before .before .before .before .before .before .before .before .before .before .before .before .before .before .before .before .before .before .before .pre .0)))
 
 returns-2 : tie.Need-returns-2
-returns-2 c = told-fault (c .before .before .before .before .before .before .before .before .read-rows .ensures) (c .if1 .left)
+returns-2 c = told-fault (c .before .before .before .before .before .before .before .read-rows .ensures) (c .if1 .left)
 
 pub table-vector-spec : {M : Type 1} → statement M
 table-vector-spec =
@@ -72,7 +68,6 @@ table-vector-spec =
     slice-aggregate-read-rows-3
     slice-aggregate-read-rows-4
     slice-aggregate-read-rows-5
-    slice-aggregate-read-rows-6
     read-rows-requires
     slice-aggregate-vector-of
     slice-aggregate-vector-of-2
