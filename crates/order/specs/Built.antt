@@ -1,10 +1,10 @@
 -- The arrays of a tree as its rows are added one by one.
--- Main definitions: Built, Adds. Main results: built-start, built-next, built-end.
-use mathlib.Core.Path.{_≡_, refl, sym, ap, ap₂, _∙_, subst}
+-- Main definitions: Tells, Built, Adds. Main results: built-start, built-next, built-end.
+use mathlib.Core.Path.{_≡_, refl, sym, ap, ap₂, _∙_}
 use mathlib.Core.Logic.{_≢_, _⊎_, inl, inr, ⊎-elim}
 use mathlib.Core.Bool.{Bool, true, false, not, _||_, cond}
 use mathlib.Core.List.{List, [], _∷_, _++_}
-use Prim.Native.Nat.{ℕ, zero, suc, _+_, _-_, _*_, _≤_, _<_, min, max}
+use Prim.Native.Nat.{ℕ, _+_, _-_, _*_, _≤_, _<_, min, max}
 use native.Mathlib.Omega.{arith}
 use lib.Dec.{eqb}
 use lib.ListN.{length, set, length-set, length-append}
@@ -13,7 +13,7 @@ use borrow.Author.Tests.{eqb-true, eqb-false, eq-eqb, ne-eqb, lt-ltb}
 use Rattle.rules.specs.Tree.{Tree, leaf, node, has, least, Distinct, Clusters}
 use Rattle.rules.specs.Table.{Row, nodesOf, tableTree}
 use Rattle.basics.specs.Bools.{or-false}
-use Rattle.rows.specs.Larger.{Pair, has-left, has-right, has-cases, least-has, top-has, pair-has, pair-above, least-apart, top-left, top-right}
+use Rattle.rows.specs.Larger.{Pair, has-left, has-right, has-cases, top-has, pair-has, pair-above, least-apart, top-left, top-right}
 use Rattle.rows.specs.Count.{last-or-before, count, count-pos, count-without}
 use Rattle.rows.specs.Forest.{namedAlso, namedIn, noded, RowOk, Forest, forest-start, forest-next, forest-end, named-snoc, nodes-snoc, named-no}
 use Rattle.rows.specs.Chains.{lowest, chain, Smaller, In, Bounded, in-left, chain-own, chain-other, chain-in, lowest-starts}

@@ -2,21 +2,22 @@
 -- Main definitions: Drawn, given, Filled. Main results: planned, vector-is, filled-start, filled-next, filled-end.
 use mathlib.Core.Path.{_≡_, refl, sym, ap, ap₂, _∙_, subst}
 use mathlib.Core.Bool.{true}
-use mathlib.Core.List.{List, [], _∷_, _++_}
+use mathlib.Core.List.{List, _++_}
 use Prim.Native.Nat.{ℕ, _+_, _-_, _≤_, _<_}
 use native.Mathlib.Omega.{arith}
 use lib.ListN.{length, drop, set, replicate}
 use borrow.Author.Tests.{ltb-true, lt-ltb}
 use Rattle.rules.specs.Building.{Merge}
-use Rattle.rules.specs.Tree.{Tree, has, least, size, LeavesBelow}
-use Rattle.rules.specs.Order.{order, entryAt, listed, vectorOf}
+use Rattle.rules.specs.Tree.{Tree, has, LeavesBelow}
+use Rattle.rules.specs.Order.{entryAt, listed, vectorOf}
 use Rattle.rows.specs.Larger.{Pair, pair-has, pair-of, least-le}
 use Rattle.rows.specs.Count.{size-below}
 use Rattle.rows.specs.Chains.{chain, falling, mergesOf, Smaller, In, Apart, Bounded, chain-starts, chain-none, falling-in, in-falling}
 use Rattle.rows.specs.Falls.{order-falls, falling-apart}
 use Rattle.order.specs.Walk.{cell, Held}
 use Rattle.order.specs.Chain.{chain-short, falling-high, smaller-less}
-use Rattle.order.specs.Entered.{Given, Planned, Holding, Keyed, entered-start, entered-end}
+use Rattle.order.specs.Entered.{Given, Planned, Holding, entered-start, entered-end}
+use Rattle.order.specs.Keyed.{Keyed}
 
 -- the arrays of a tree whose leaves are 0 to n-1: the smaller name of each pair by its larger name, and the chains
 pub record Drawn (n : ℕ) (t : Tree) (small next last : List ℕ) : Type 0 where

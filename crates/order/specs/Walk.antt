@@ -1,10 +1,10 @@
 -- Chains of names in arrays: next has the name behind each name, and 0 behind the last; last has the last name of each chain.
--- Main definitions: cell, Walk, lastOf, Held. Main results: walk-ends, last-cases, held-kept, held-more, held-none, held-some.
+-- Main definitions: cell, Walk, lastOf, Held, far. Main results: last-cases, held-pos, far-is, held-kept, held-more.
 use mathlib.Core.Path.{_≡_, refl, sym, ap, _∙_}
 use mathlib.Core.Logic.{_≢_, _⊎_, inl, inr}
 use mathlib.Core.Bool.{cond}
 use mathlib.Core.List.{List, [], _∷_, _++_}
-use Prim.Native.Nat.{ℕ, zero, suc, _≤_, _<_}
+use Prim.Native.Nat.{ℕ, zero, suc, _≤_}
 use native.Mathlib.Omega.{arith}
 use lib.Dec.{eqb}
 use lib.ListN.{length, getD}

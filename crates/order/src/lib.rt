@@ -14,7 +14,8 @@ ghost use Rattle.rules.specs.Table.{Row};
 ghost use Rattle.rows.specs.Chains.{falling};
 ghost use Rattle.ranks.specs.Steps.{Steps};
 ghost use Rattle.order.specs.Walk.{cell};
-ghost use Rattle.order.specs.Entered.{Given, Headed, Entered, Keyed};
+ghost use Rattle.order.specs.Entered.{Given, Headed, Entered};
+ghost use Rattle.order.specs.Keyed.{Keyed};
 ghost use Rattle.order.specs.Vector.{Drawn};
 ghost use Rattle.order.specs.Built.{Built, Adds};
 

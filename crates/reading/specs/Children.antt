@@ -11,7 +11,7 @@ use lib.ListN.{length, getD, take, drop, length-take, take-append-drop}
 use lib.Seq.{take-suc, drop-cons, take-all}
 use Rattle.rules.specs.Tree.{Tree}
 use Rattle.rules.specs.Table.{Row, rowFault, tableFault, tableTree}
-use Rattle.rows.specs.Forest.{RowOk, namedIn, fault-append, fault-none, fault-step}
+use Rattle.rows.specs.Forest.{RowOk, fault-append, fault-none, fault-step}
 use Rattle.order.specs.Walk.{cell}
 use Rattle.order.specs.Built.{taken, Built, Adds, built-end}
 use Rattle.order.specs.Vector.{Drawn}

@@ -6,12 +6,12 @@ use mathlib.Core.List.{List, _++_}
 use mathlib.Core.Option.{none, some}
 use Prim.Native.Nat.{ℕ, _+_, _-_, _≤_, max}
 use native.Mathlib.Omega.{arith}
-use lib.ListN.{length, take, drop, set}
+use lib.ListN.{take, drop, set}
 use Rattle.rules.specs.Tree.{Tree}
 use Rattle.rules.specs.Order.{vectorOf}
 use Rattle.rules.specs.Table.{rowsOf, tableFault, tableTree}
 use Rattle.order.specs.Walk.{cell}
-use Rattle.order.specs.Built.{taken, Built, built-end}
+use Rattle.order.specs.Built.{taken, built-end}
 use Rattle.order.specs.Vector.{Drawn}
 use Rattle.reading.specs.declared.Found.{Found}
 use Rattle.reading.specs.Verdict.{verdict, placed, placed-verdict, rowNumber, verdict-number}

@@ -1,17 +1,12 @@
 -- `add_pair` meets its contract: the row's names and its key, and what is stored at them.
-use mathlib.Core.Path.{_≡_, refl, sym, ap, _∙_}
-use Prim.Native.Nat.{ℕ, _+_, _-_, _*_, _<_, _≤_}
+use mathlib.Core.Path.{ap}
+use Prim.Native.Nat.{_<_}
 use lib.ListN.{length, set, length-set}
 use Rattle.order.specs.Built.{adds-parent, adds-room, adds-last, built-next}
 use native.Mathlib.Omega.{arith}
 use borrow.Author.Needs.{needs}
 use Rattle.order.proofs.add_pair.Statement.{statement}
 use Rattle.order.proofs.add_pair.Tie as tie
-use Rattle.order.proofs.add_pair.Reads as reads
-use Rattle.order.proofs.add_pair.Lts as lts
-use Rattle.order.proofs.greater.Reads as greater-reads
-use Rattle.order.proofs.lesser.Reads as lesser-reads
-use Rattle.order.proofs.wide.Reads as wide-reads
 
 -- room for the row's names and its key
 here : (c : tie.After-lesser3) → (c .before .before .before .before .before .before .before .lesser .result < 1024) × (c .before .before .before .before .before .before .greater .result < 1024) × (c .lesser3 .result < 1024) × (c .before .before .before .before .before .before .greater .result < length (c .before .before .before .before .before .before .before .before .before .before .before .before .before .args .small .now)) × (c .before .before .before .before .before .before .greater .result < length (c .before .before .before .before .before .before .before .before .before .before .before .before .before .args .next .now)) × (c .lesser3 .result < length (c .before .before .before .before .before .before .before .before .before .before .before .before .before .args .last .now))

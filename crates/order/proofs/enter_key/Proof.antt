@@ -1,16 +1,11 @@
 -- `enter_key` meets its contract: a key without a chain is passed, a chain is followed.
-use mathlib.Core.Path.{_≡_, refl, sym, ap, _∙_}
-use Prim.Native.Nat.{ℕ, _+_, _-_, _<_, _≤_}
 use lib.ListN.{length-set}
 use Rattle.order.specs.Walk.{cell}
-use Rattle.order.specs.Entered.{keyed-room, keyed-skip, keyed-head, keyed-chain}
+use Rattle.order.specs.Keyed.{keyed-room, keyed-skip, keyed-head, keyed-chain}
 use native.Mathlib.Omega.{arith}
 use borrow.Author.Needs.{needs}
 use Rattle.order.proofs.enter_key.Statement.{statement}
 use Rattle.order.proofs.enter_key.Tie as tie
-use Rattle.order.proofs.enter_key.Reads as reads
-use Rattle.order.proofs.enter_key.Lts as lts
-use Rattle.order.proofs.follow.Reads as follow-reads
 
 mul-if1 : tie.Need-mul-if1
 mul-if1 c = search needs

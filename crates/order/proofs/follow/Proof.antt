@@ -1,17 +1,12 @@
 -- `follow` meets its contract. The invariant: every walk that could begin at the key k has come to j.
-use mathlib.Core.Path.{_≡_, refl, sym, ap, _∙_}
-use Prim.Native.Nat.{ℕ, _+_, _-_, _<_, _≤_}
+use mathlib.Core.Path.{refl}
 use Rattle.order.specs.Walk.{cell, far}
-use Rattle.order.specs.Entered.{headed-key, Following, following-start, following-room, following-ranked, following-few, following-next, following-less, following-end}
+use Rattle.order.specs.Entered.{headed-key}
+use Rattle.order.specs.Keyed.{Following, following-start, following-room, following-ranked, following-few, following-next, following-less, following-end}
 use native.Mathlib.Omega.{arith}
 use borrow.Author.Needs.{needs}
 use Rattle.order.proofs.follow.Statement.{statement}
 use Rattle.order.proofs.follow.Tie as tie
-use Rattle.order.proofs.follow.Reads as reads
-use Rattle.order.proofs.follow.Lts as lts
-use Rattle.order.proofs.wide.Reads as wide-reads
-use Rattle.ranks.proofs.insert.Reads as insert-reads
-use Rattle.ranks.proofs.rank.Reads as rank-reads
 
 abbrev Inv-loop : tie.InvT-loop
 Inv-loop next blocks₀ names₀ block-steps name-steps out₀ k keys j₀ blocks names out j =

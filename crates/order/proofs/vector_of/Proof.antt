@@ -1,17 +1,10 @@
 -- `vector_of` meets its contract. The invariant: the chains of all keys from k on have their entries.
-use mathlib.Core.Path.{_≡_, refl, sym, ap, _∙_}
-use Prim.Native.Nat.{ℕ, _+_, _-_, _<_, _≤_}
-use lib.ListN.{length-set}
+use mathlib.Core.Path.{sym}
 use Rattle.order.specs.Vector.{Filled, filled-start, filled-long, some-key, filled-next, filled-end}
 use native.Mathlib.Omega.{arith}
 use borrow.Author.Needs.{needs}
 use Rattle.order.proofs.vector_of.Statement.{statement}
 use Rattle.order.proofs.vector_of.Tie as tie
-use Rattle.order.proofs.vector_of.Reads as reads
-use Rattle.order.proofs.vector_of.Lts as lts
-use Rattle.order.proofs.enter_key.Reads as enter-key-reads
-use Rattle.ranks.proofs.raise_blocks.Reads as raise-blocks-reads
-use Rattle.ranks.proofs.raise_names.Reads as raise-names-reads
 
 abbrev Inv-loop : tie.InvT-loop
 Inv-loop n small next last out₀ blocks₀ names₀ block-steps name-steps keys₀ k₀ out blocks names keys k =

@@ -6,10 +6,6 @@ use native.Mathlib.Omega.{arith}
 use borrow.Author.Needs.{needs}
 use Rattle.reading.proofs.add_children.Statement.{statement}
 use Rattle.reading.proofs.add_children.Tie as tie
-use Rattle.reading.proofs.add_children.Reads as reads
-use Rattle.reading.proofs.add_children.Lts as lts
-use Rattle.order.proofs.add_pair.Reads as add-pair-reads
-use Rattle.reading.proofs.wide.Reads as wide-reads
 
 abbrev Inv-loop : tie.InvT-loop
 Inv-loop n left right names₀ lows₀ small₀ next₀ last₀ count t₀ names lows small next last t =

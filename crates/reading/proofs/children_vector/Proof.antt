@@ -1,15 +1,9 @@
-use mathlib.Core.Path.{refl}
 use Rattle.reading.specs.Leaves.{built-leaves}
 use Rattle.reading.specs.Children.{added-start, added-end, some-tree}
 use native.Mathlib.Omega.{arith}
 use borrow.Author.Needs.{needs}
 use Rattle.reading.proofs.children_vector.Statement.{statement}
 use Rattle.reading.proofs.children_vector.Tie as tie
-use Rattle.reading.proofs.children_vector.Reads as reads
-use Rattle.reading.proofs.children_vector.Lts as lts
-use Rattle.order.proofs.vector_of.Reads as vector-of-reads
-use Rattle.reading.proofs.add_children.Reads as add-children-reads
-use Rattle.reading.proofs.name_leaves.Reads as name-leaves-reads
 
 slice-aggregate-name-leaves : tie.Need-slice-aggregate-name-leaves
 slice-aggregate-name-leaves c = search needs

@@ -6,8 +6,6 @@ use native.Mathlib.Omega.{arith}
 use borrow.Author.Needs.{needs}
 use Rattle.reading.proofs.name_leaves.Statement.{statement}
 use Rattle.reading.proofs.name_leaves.Tie as tie
-use Rattle.reading.proofs.name_leaves.Reads as reads
-use Rattle.reading.proofs.name_leaves.Lts as lts
 
 abbrev Inv-loop : tie.InvT-loop
 Inv-loop names₀ n k₀ names k = Leaves n names₀ names k

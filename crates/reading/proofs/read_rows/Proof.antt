@@ -1,19 +1,11 @@
 use mathlib.Core.Path.{_≡_, refl, sym, _∙_}
 use Prim.Native.Nat.{_-_}
-use lib.ListN.{length-set}
-use Rattle.reading.specs.Reading.{Reads, Lengths, Row-at, reads-inside, adds-some, reads-next}
+use Rattle.reading.specs.Reading.{Reads, Lengths, reads-inside, adds-some, reads-next}
 use Rattle.reading.specs.Told.{read-placed, read-named, read-all}
 use native.Mathlib.Omega.{arith}
 use borrow.Author.Needs.{needs}
 use Rattle.reading.proofs.read_rows.Statement.{statement}
 use Rattle.reading.proofs.read_rows.Tie as tie
-use Rattle.reading.proofs.read_rows.Reads as reads
-use Rattle.reading.proofs.read_rows.Lts as lts
-use Rattle.order.proofs.add_pair.Reads as add-pair-reads
-use Rattle.order.proofs.greater.Reads as greater-reads
-use Rattle.reading.proofs.row_verdict.Reads as row-verdict-reads
-use Rattle.reading.proofs.take_name.Reads as take-name-reads
-use Rattle.reading.proofs.wide.Reads as wide-reads
 
 abbrev Inv-loop : tie.InvT-loop
 Inv-loop n rows names₀ lows₀ small₀ next₀ last₀ count t₀ names lows small next last t =

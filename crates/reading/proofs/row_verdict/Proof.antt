@@ -1,10 +1,6 @@
 use Rattle.reading.specs.Verdict.{wrong-parent, wrong-first, wrong-second, in-place}
-use native.Mathlib.Omega.{arith}
-use borrow.Author.Needs.{needs}
 use Rattle.reading.proofs.row_verdict.Statement.{statement}
 use Rattle.reading.proofs.row_verdict.Tie as tie
-use Rattle.reading.proofs.row_verdict.Reads as reads
-use Rattle.reading.proofs.row_verdict.Lts as lts
 
 returns : tie.Need-returns
 returns c = wrong-parent _ _ _ _ (c .if1 .taken)

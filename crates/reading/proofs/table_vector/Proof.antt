@@ -1,15 +1,9 @@
 use Rattle.reading.specs.Leaves.{built-leaves}
 use Rattle.reading.specs.Reading.{reads-start}
 use Rattle.reading.specs.Told.{drawn, some-drawn, told-fault, told-vector}
-use native.Mathlib.Omega.{arith}
 use borrow.Author.Needs.{needs}
 use Rattle.reading.proofs.table_vector.Statement.{statement}
 use Rattle.reading.proofs.table_vector.Tie as tie
-use Rattle.reading.proofs.table_vector.Reads as reads
-use Rattle.reading.proofs.table_vector.Lts as lts
-use Rattle.order.proofs.vector_of.Reads as vector-of-reads
-use Rattle.reading.proofs.name_leaves.Reads as name-leaves-reads
-use Rattle.reading.proofs.read_rows.Reads as read-rows-reads
 
 slice-aggregate-name-leaves : tie.Need-slice-aggregate-name-leaves
 slice-aggregate-name-leaves c = search needs
