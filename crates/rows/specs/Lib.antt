@@ -1,8 +1,6 @@
 pub mod Larger
 pub mod Chains
 pub mod Falls
-pub mod Fits
-pub mod Best
 pub mod Collapse
 pub mod Count
 pub mod Forest
