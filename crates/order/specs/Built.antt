@@ -13,7 +13,8 @@ use borrow.Author.Tests.{eqb-true, eqb-false, eq-eqb, ne-eqb, lt-ltb}
 use Rattle.rules.specs.Tree.{Tree, leaf, node, has, least, Distinct, Clusters}
 use Rattle.rules.specs.Table.{Row, nodesOf, tableTree}
 use Rattle.basics.specs.Bools.{or-false}
-use Rattle.rows.specs.Larger.{Pair, has-left, has-right, has-cases, top-has, pair-has, pair-above, least-apart, top-left, top-right}
+use Rattle.clades.specs.Leaves.{has-left, has-right, has-cases, least-apart}
+use Rattle.rows.specs.Larger.{Pair, top-has, pair-has, pair-above, top-left, top-right}
 use Rattle.rows.specs.Count.{last-or-before, count, count-pos, count-without}
 use Rattle.rows.specs.Forest.{namedAlso, namedIn, noded, RowOk, Forest, forest-start, forest-next, forest-end, named-snoc, nodes-snoc, named-no}
 use Rattle.rows.specs.Chains.{lowest, chain, Smaller, In, Bounded, in-left, chain-own, chain-other, chain-in, lowest-starts}

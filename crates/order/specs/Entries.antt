@@ -12,6 +12,7 @@ use lib.Seq.{getD-take, ext-getD, getD-append-seam, length-take-le}
 use borrow.Author.Tests.{eqb-true, eqb-false, eq-eqb, ne-eqb, ltb-true, lt-ltb, le-ltb}
 use Rattle.rules.specs.Order.{earlier, partner, listed}
 use Rattle.basics.specs.Bools.{and-false}
+use Rattle.basics.specs.Listed.{length-listed, listed-at}
 use Rattle.rows.specs.Count.{bit}
 use Rattle.rows.specs.Chains.{mergesOf, In}
 use Rattle.order.specs.Walk.{cell}
@@ -73,29 +74,10 @@ none-earlier s (y ∷ l) g =
     let r = none-earlier s l (λ z h. g z (inr h)) in
     (rw (ne-eqb 0 y (omega arith)) (r .0), rw (ne-eqb 0 y (omega arith), le-ltb (s y) 0 (omega arith)) (omega (arith, r .1)))
 
--- ---- a list of values
-listed-length : (n : ℕ) (f : ℕ → ℕ) → length (listed n f) ≡ n
-unfolding listed
-listed-length zero f = refl
-listed-length (suc n) f = omega (arith, length-append (listed n f) (f n ∷ []), listed-length n f)
-
-listed-at : (n : ℕ) (f : ℕ → ℕ) (x : ℕ) → x < n → getD (listed n f) x 0 ≡ f x
-unfolding listed
-listed-at zero f x h = absurd (omega arith)
-listed-at (suc n) f x h = go (eqb x n) refl (λ l. listed-at n f x l)
-  where
-    go : (b : Bool) → eqb x n ≡ b → (x < n → getD (listed n f) x 0 ≡ f x) → getD (listed n f ++ (f n ∷ [])) x 0 ≡ f x
-    go true q r =
-        let z = eqb-true x n q in
-        rw z (ap (λ (y : ℕ). getD (listed n f ++ (f n ∷ [])) y 0) (sym (listed-length n f)) ∙ getD-append-seam (listed n f) (f n) [] 0)
-    go false q r =
-        let z = eqb-false x n q in
-        List·getD-append (listed n f) (f n ∷ []) 0 x (omega (arith, listed-length n f)) ∙ r (omega arith)
-
 -- a list is its first n elements and the rest
 pub listed-from : (n : ℕ) (f : ℕ → ℕ) (out : List ℕ) → n ≤ length out → ((x : ℕ) → x < n → cell out x ≡ f x) → out ≡ listed n f ++ drop n out
 listed-from n f out h g =
     sym (take-append-drop n out)
     ∙ ap (λ (l : List ℕ). l ++ drop n out)
-    (ext-getD 0 (take n out) (listed n f) (length-take-le n out h ∙ sym (listed-length n f))
+    (ext-getD 0 (take n out) (listed n f) (length-take-le n out h ∙ sym (length-listed n f))
     (λ x l. let y : x < n = omega (arith, length-take-le n out h) in getD-take n out x 0 y ∙ g x y ∙ sym (listed-at n f x y)))

@@ -10,8 +10,9 @@ use borrow.Author.Tests.{ltb-true, lt-ltb}
 use Rattle.rules.specs.Building.{Merge}
 use Rattle.rules.specs.Tree.{Tree, has, LeavesBelow}
 use Rattle.rules.specs.Order.{entryAt, listed, vectorOf}
-use Rattle.rows.specs.Larger.{Pair, pair-has, pair-of, least-le}
-use Rattle.rows.specs.Count.{size-below}
+use Rattle.clades.specs.Leaves.{least-le}
+use Rattle.rows.specs.Larger.{Pair, pair-has, pair-of}
+use Rattle.clades.specs.Size.{size-below}
 use Rattle.rows.specs.Chains.{chain, falling, mergesOf, Smaller, In, Apart, Bounded, chain-starts, chain-none, falling-in, in-falling}
 use Rattle.rows.specs.Falls.{order-falls, falling-apart}
 use Rattle.order.specs.Walk.{cell, Held}

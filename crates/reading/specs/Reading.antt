@@ -15,7 +15,7 @@ use borrow.Author.Tests.{eqb-true, eqb-false, leb-true, leb-false}
 use Rattle.rules.specs.Tree.{least}
 use Rattle.rules.specs.Table.{Row, rowsOf, namedTwice, rowFault, tableFault}
 use Rattle.basics.specs.Bools.{or-false, or-cases}
-use Rattle.rows.specs.Larger.{least-has}
+use Rattle.clades.specs.Leaves.{least-has}
 use Rattle.rows.specs.Forest.{RowOk, namedIn, namedAlso, named-snoc, fault-append, fault-step}
 use Rattle.order.specs.Walk.{cell}
 use Rattle.order.specs.Built.{taken, nodes, Built, Adds}

@@ -14,7 +14,7 @@ use Rattle.rules.specs.Tree.{Tree, leaf, node, has, Clade, Clusters}
 use Rattle.rules.specs.Table.{Row, rowFault, tableFault, nodesOf, tableTree, Under, TableClade}
 use Rattle.rules.specs.Table.Under.{itself, left, right}
 use Rattle.basics.specs.Bools.{or-cases, both}
-use Rattle.rows.specs.Larger.{has-left, has-right, has-cases}
+use Rattle.clades.specs.Leaves.{has-left, has-right, has-cases}
 use Rattle.rows.specs.Count.{count, count-only}
 use Rattle.rows.specs.Forest.{namedAlso, namedIn, noded, RowOk, Forest, fault-none, forest-table}
 

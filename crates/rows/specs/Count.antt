@@ -1,14 +1,12 @@
--- How many numbers below n pass a test, and how many leaves a tree has.
--- Main definitions: bit, count. Main results: last-or-before, count-without, count-or, count-only, size-count, size-below.
-use mathlib.Core.Path.{_≡_, refl, sym, ap, ap₂, _∙_}
+-- How many numbers below n pass a test.
+-- Main definitions: bit, count. Main results: last-or-before, count-all, count-none, count-without, count-or, count-only.
+use mathlib.Core.Path.{_≡_, refl, sym, ap, ap₂}
 use mathlib.Core.Logic.{_≢_, _⊎_, inl, inr}
-use mathlib.Core.Bool.{Bool, true, false, _||_, false≢true, true≢false}
+use mathlib.Core.Bool.{Bool, true, false, _||_}
 use Prim.Native.Nat.{ℕ, zero, suc, _+_, _≤_, _<_}
 use native.Mathlib.Omega.{arith}
 use lib.Dec.{eqb, ltb}
-use borrow.Author.Tests.{eqb-true, eqb-false, eq-eqb, ne-eqb, lt-ltb, ltb-true}
-use Rattle.rules.specs.Tree.{Tree, leaf, node, has, size, Distinct, LeavesBelow}
-use Rattle.rows.specs.Larger.{has-left, has-right}
+use borrow.Author.Tests.{eqb-true, eqb-false, ltb-true, ltb-false}
 
 -- below m + 1 is m or below m
 pub last-or-before : (m k : ℕ) → k < m + 1 → (k ≡ m) ⊎ (k < m)
@@ -97,21 +95,4 @@ count-only f a b n h k l e d = go (ltb a b) (ltb b a) refl refl
     go : (x y : Bool) → ltb a b ≡ x → ltb b a ≡ y → a ≡ b
     go true y p q = absurd (omega (arith, count-two f a b n (ltb-true a b p) l e d))
     go false true p q = absurd (omega (arith, count-two f b a n (ltb-true b a q) k d e))
-    go false false p q = omega (arith, borrow.Author.Tests.ltb-false a b p, borrow.Author.Tests.ltb-false b a q)
-
-count-one : (y n : ℕ) → y < n → count (eqb y) n ≡ 1
-count-one y n l =
-    omega (arith, count-without (eqb y) (λ x. false) y n l (eq-eqb y y refl) refl (λ x k. sym (ne-eqb y x (λ e. k (sym e)))), count-none (λ x. false) n (λ x h. refl))
-
--- a tree has as many leaves as numbers stand in it
-pub size-count : (t : Tree) (n : ℕ) → Distinct t → ((x : ℕ) → has t x ≡ true → x < n) → count (has t) n ≡ size t
-unfolding Distinct has size
-size-count (leaf y) n D h = count-one y n (h y (eq-eqb y y refl))
-size-count (node l r) n D h =
-    count-or (has l) (has r) n (D .0)
-    ∙ ap₂ (λ (a b : ℕ). a + b) (size-count l n (D .1) (λ x e. h x (has-left l r x e))) (size-count r n (D .2) (λ x e. h x (has-right l r x e)))
-
-pub size-below : (n : ℕ) (t : Tree) → LeavesBelow n t → size t ≡ n
-size-below n t L =
-    sym (size-count t n (L .once) (λ x e. ltb-true x n (sym (L .all x) ∙ e)))
-    ∙ count-all (has t) n (λ x l. L .all x ∙ lt-ltb x n l)
+    go false false p q = omega (arith, ltb-false a b p, ltb-false b a q)

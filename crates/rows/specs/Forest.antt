@@ -13,7 +13,7 @@ use borrow.Author.Tests.{eqb-true, eqb-false, eq-eqb, ne-eqb, ltb-true, lt-ltb, 
 use Rattle.rules.specs.Tree.{Tree, leaf, node, has, Distinct, LeavesBelow, Clusters}
 use Rattle.rules.specs.Table.{Row, Fault, childrenBelow, namedTwice, rowFault, tableFault, nodesOf, tableTree}
 use Rattle.basics.specs.Bools.{or-cases, or-no, or-false, both}
-use Rattle.rows.specs.Larger.{has-left, has-right, has-cases}
+use Rattle.clades.specs.Leaves.{has-left, has-right, has-cases}
 use Rattle.rows.specs.Count.{last-or-before, bit, count, count-all, count-without, count-only}
 
 -- k is a child of the row, or was named before

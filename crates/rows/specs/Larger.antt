@@ -1,19 +1,15 @@
 -- The larger names of a tree: each of its inner nodes is the pair of exactly one of them.
--- Main definitions: top, inner, Pair. Main results: pair-has, pair-above, pair-of, top-left, top-right.
-use mathlib.Core.Path.{_≡_, refl, sym, ap, _∙_}
-use mathlib.Core.Logic.{_≢_, _⊎_, inl, inr, ⊎-elim}
-use mathlib.Core.Bool.{Bool, true, false, _||_}
-use Prim.Native.Nat.{ℕ, zero, suc, _+_, _≤_, _<_, min, max}
+-- Main definitions: inner, Pair. Main results: top-has, pair-has, pair-above, pair-of, pair-apart, top-left, top-right.
+use mathlib.Core.Path.{_≡_, refl, sym}
+use mathlib.Core.Logic.{_≢_, _⊎_, inl, inr}
+use mathlib.Core.Bool.{Bool, true, false}
+use Prim.Native.Nat.{ℕ, _<_, min, max}
 use native.Mathlib.Omega.{arith}
 use lib.Dec.{eqb, ltb}
-use borrow.Author.Tests.{ltb-true, ltb-false, eqb-true, eqb-false, eq-eqb}
-use Rattle.rules.specs.Tree.{Tree, leaf, node, has, least, size, Distinct}
-use Rattle.basics.specs.Bools.{or-cases, or-left, or-right}
-
--- the larger name of a tree's own pair; a leaf has no pair, and 0 is never a larger name
-unfoldable pub top : Tree → ℕ
-top (leaf x) = 0
-top (node l r) = max (least l) (least r)
+use borrow.Author.Tests.{ltb-true, ltb-false, eqb-true, eqb-false}
+use Rattle.rules.specs.Tree.{Tree, leaf, node, has, least, Distinct}
+use Rattle.basics.specs.Bools.{or-cases}
+use Rattle.clades.specs.Leaves.{has-left, has-right, least-has, least-apart}
 
 -- 1 for an inner node
 unfoldable pub inner : Tree → ℕ
@@ -33,34 +29,6 @@ lesser a b = go (ltb a b) refl
     go true q = let h = ltb-true a b q in inl (omega arith)
     go false q = let h = ltb-false a b q in inr (omega arith)
 
-pub has-left : (l r : Tree) (x : ℕ) → has l x ≡ true → has (node l r) x ≡ true
-unfolding has
-has-left l r x e = or-left (has l x) (has r x) e
-
-pub has-right : (l r : Tree) (x : ℕ) → has r x ≡ true → has (node l r) x ≡ true
-unfolding has
-has-right l r x e = or-right (has l x) (has r x) e
-
-pub has-cases : (l r : Tree) (x : ℕ) → has (node l r) x ≡ true → (has l x ≡ true) ⊎ (has r x ≡ true)
-unfolding has
-has-cases l r x e = or-cases (has l x) (has r x) e
-
--- the least leaf is a leaf
-pub least-has : (t : Tree) → has t (least t) ≡ true
-unfolding has least
-least-has (leaf x) = eq-eqb x x refl
-least-has (node l r) = go (lesser (least l) (least r)) (least-has l) (least-has r)
-  where
-    go : ((min (least l) (least r) ≡ least l) × (max (least l) (least r) ≡ least r)) ⊎ ((min (least l) (least r) ≡ least r) × (max (least l) (least r) ≡ least l))
-        → has l (least l) ≡ true → has r (least r) ≡ true → has (node l r) (min (least l) (least r)) ≡ true
-    go (inl k) hl hr = rw (k .0) (or-left (has l (least l)) (has r (least l)) hl)
-    go (inr k) hl hr = rw (k .0) (or-right (has l (least r)) (has r (least r)) hr)
-
-pub least-le : (t : Tree) (x : ℕ) → has t x ≡ true → least t ≤ x
-unfolding has least
-least-le (leaf y) x e = omega (arith, eqb-true y x e)
-least-le (node l r) x e = ⊎-elim (λ h. omega (arith, least-le l x h)) (λ h. omega (arith, least-le r x h)) (or-cases (has l x) (has r x) e)
-
 -- the larger name of a node's pair is one of its leaves
 pub top-has : (l r : Tree) → has (node l r) (max (least l) (least r)) ≡ true
 top-has l r = go (lesser (least l) (least r))
@@ -76,11 +44,6 @@ pair-has (leaf x) i p = absurd p
 pair-has (node l r) i (inl e) = rw e at (top-has l r)
 pair-has (node l r) i (inr (inl p)) = has-left l r i (pair-has l i p)
 pair-has (node l r) i (inr (inr p)) = has-right l r i (pair-has r i p)
-
--- the two clusters of a pair have different names
-pub least-apart : (l r : Tree) → Distinct (node l r) → least l ≢ least r
-unfolding Distinct
-least-apart l r D e = D .0 (least r) (rw e at (least-has l)) (least-has r)
 
 -- a larger name stands above the least leaf
 pub pair-above : (t : Tree) (i : ℕ) → Distinct t → Pair t i → least t < i
@@ -124,15 +87,3 @@ pair-of (node l r) x e k = go (or-cases (has l x) (has r x) e) (eqb x (least l))
     go (inl h) false q c q′ f g = inr (inl (f h (eqb-false x (least l) q)))
     go (inr h) b q true q′ f g = inl (let e′ = eqb-true x (least r) q′ in omega arith)
     go (inr h) b q false q′ f g = inr (inr (g h (eqb-false x (least r) q′)))
-
--- a number from 1 on that is no leaf of a tree is not its larger name
-pub not-top : (t : Tree) (x : ℕ) → 1 ≤ x → (has t x ≡ true → ⊥) → x ≢ top t
-unfolding top
-not-top (leaf y) x h f e = omega arith
-not-top (node l r) x h f e = f (rw (sym e) at (top-has l r))
-
--- a tree's own larger name is one of its leaves, or 0
-pub top-below : (t : Tree) (n : ℕ) → 1 ≤ n → ((x : ℕ) → has t x ≡ true → x < n) → top t < n
-unfolding top
-top-below (leaf y) n h f = h
-top-below (node l r) n h f = f (max (least l) (least r)) (top-has l r)
