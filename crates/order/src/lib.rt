@@ -18,12 +18,7 @@ ghost use Rattle.order.specs.Entered.{Given, Headed, Entered};
 ghost use Rattle.order.specs.Keyed.{Keyed};
 ghost use Rattle.order.specs.Vector.{Drawn};
 ghost use Rattle.order.specs.Built.{Built, Adds};
-
-fn wide(x: u16) -> usize
-    ensures { λ r. ⌜ r ≡ x ⌝ }
-{
-    x as usize
-}
+use vector::wide;
 
 // The entries of the names behind the key k in its chain. keys counts the keys from k on; out[j] has how many of them are above j.
 // The merges before j of names below it are those of the keys between k and j, and those of the set, which are no keys.

@@ -10,17 +10,12 @@ ghost use Rattle.reading.specs.Told.{HasRead, Told};
 ghost use Rattle.reading.specs.Children.{Children, Added};
 ghost use Rattle.rules.specs.Order.{vectorOf};
 ghost use Rattle.rules.specs.Table.{Row, tableTree};
+use vector::wide;
 
 // The number of the refusal of a row, or 0, and which row it is.
 pub struct Found {
     pub number: u8,
     pub row: usize,
-}
-
-fn wide(x: u16) -> usize
-    ensures { λ r. ⌜ r ≡ x ⌝ }
-{
-    x as usize
 }
 
 // The verdict on the numbers of a row whose parent must be p.
@@ -47,18 +42,6 @@ fn take_name(names: &mut [u16], c: usize) -> usize
     let x = wide(names[c]);
     names[c] = 65535;
     x
-}
-
-// Each leaf is its own name.
-fn name_leaves(names: &mut [u16], n: usize)
-    requires { ⌜ (n ≤ length (now names)) × (n ≤ 1024) ⌝ }
-    ensures { λ _. ⌜ ((k : ℕ) → k < n → cell (now (names .exit)) k ≡ k) ⌝ }
-{
-    let mut k: usize = 0;
-    while k < n {
-        names[k] = k as u16;
-        k += 1;
-    }
 }
 
 // Reads the rows of a table with n leaves: the first that is refused, or none, and then the arrays hold the tree.
@@ -104,7 +87,7 @@ pub fn table_vector(n: usize, rows: &[u16], vector: &mut [u16]) -> Found
     let mut small = [0u16; 1024];
     let mut next = [0u16; 1024];
     let mut last = [0u16; 1024];
-    name_leaves(&mut names, n);
+    vector::number_leaves(&mut names, n);
     let found = read_rows(
         n,
         rows,
@@ -158,7 +141,7 @@ pub fn children_vector(n: usize, left: &[u16], right: &[u16], vector: &mut [u16]
     let mut small = [0u16; 1024];
     let mut next = [0u16; 1024];
     let mut last = [0u16; 1024];
-    name_leaves(&mut names, n);
+    vector::number_leaves(&mut names, n);
     add_children(
         n,
         left,

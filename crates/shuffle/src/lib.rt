@@ -10,14 +10,9 @@ ghost use Rattle.shuffle.specs.Held.{heldNodes, heldTree, Tabled};
 ghost use Rattle.shuffle.specs.Waits.{queueAt, Waits, Lent, Ready, Placed};
 ghost use Rattle.shuffle.specs.Renames.{renamedTo};
 ghost use Rattle.shuffle.specs.Marks.{placeOf, Mark};
+use vector::wide;
 
 // A 16-bit number as an index.
-fn wide(x: u16) -> usize
-    ensures { λ r. ⌜ r ≡ x ⌝ }
-{
-    x as usize
-}
-
 // A leaf gets its label; another node goes to the back of the queue with it. The result is where the queue ends then.
 fn place(
     n: usize,

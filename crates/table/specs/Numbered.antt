@@ -1,5 +1,5 @@
 -- The rows of merges that are numbered in their order: after t rows, number has the node of each name.
--- Main definitions: heldMerges, heldRows, Held, Numbered, Leaves. Main results: numbered-start, turn, row-at, numbered-next, held-of.
+-- Main definitions: heldMerges, heldRows, Held, Numbered. Main results: numbered-start, turn, row-at, numbered-next, held-of.
 use mathlib.Core.Path.{_≡_, refl, sym, ap, ap₂, _∙_}
 use mathlib.Core.Bool.{Bool, true, false, cond}
 use mathlib.Core.List.{List, _∷_, _++_, map}
@@ -142,29 +142,6 @@ module _ {list small : List ℕ} {start n : ℕ} {number₀ number : List ℕ} {
             (rows-cong n (n + t + 1) (λ c. cond (eqb c a) (n + t) (getD number c 0)) (λ c. getD (set number a (n + t)) c 0) (drop (suc t) P)
             (λ c g. renumbered number a (n + t) c (T .a-in-number)) (inside-drop n (suc t) P (H .names))));
       }
-
--- the loop that numbers the leaves
-pub record Leaves (n : ℕ) (number₀ number : List ℕ) (c : ℕ) : Type 0 where
-  pub few : n ≤ 1024
-  pub room : n ≤ length number₀
-  pub high : c ≤ n
-  pub same : length number ≡ length number₀
-  pub itself : (x : ℕ) → x < c → getD number x 0 ≡ x
-
-pub leaves-next : {n : ℕ} {number₀ number : List ℕ} {c : ℕ} → Leaves n number₀ number c → c < n → Leaves n number₀ (set number c c) (c + 1)
-leaves-next {n} {number₀} {number} {c} L h =
-    let room = L .room in
-    record {
-      few = L .few;
-      room = L .room;
-      high = omega arith;
-      same = length-set number c c ∙ L .same;
-      itself = λ x l. go x l (eqb x c) refl;
-    }
-  where
-    go : (x : ℕ) → x < c + 1 → (b : Bool) → eqb x c ≡ b → getD (set number c c) x 0 ≡ x
-    go x l true e = let z = eqb-true x c e in rw z (getD-set-same number c c 0 (omega (arith, L .room, L .same)))
-    go x l false e = let z = eqb-false x c e in getD-set-other number c x c 0 z ∙ L .itself x (omega arith)
 
 -- the names of a vector's merges are its leaves
 pub pairs-inside : (v : List ℕ) → Valid v → Inside (length v) (pairs v)

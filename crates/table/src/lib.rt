@@ -9,18 +9,6 @@ ghost use Rattle.table_laws.specs.Rows.{first, second};
 ghost use Rattle.table.specs.Numbered.{heldRows, Held};
 use vector::wide;
 
-// Each leaf is its own node.
-fn number_leaves(number: &mut [u16], n: usize)
-    requires { ⌜ (n ≤ length (now number)) × (n ≤ 1024) ⌝ }
-    ensures { λ r. ⌜ ((c : ℕ) → c < n → getD (now (number .exit)) c 0 ≡ c) ⌝ }
-{
-    let mut c: usize = 0;
-    while c < n {
-        number[c] = c as u16;
-        c += 1;
-    }
-}
-
 // The children of the rows of the merges that list and small hold; number has the node of each name.
 fn children(
     list: &[u16],
@@ -79,7 +67,7 @@ fn held_merges(v: &[u16], list: &mut [u16], small: &mut [u16], number: &mut [u16
     ensures { λ r. ⌜ Held (now (list .exit)) (now (small .exit)) r (length (now (v .entry))) (now (number .exit))
         × (heldRows (now (list .exit)) (now (small .exit)) r (length (now (v .entry))) ≡ rowsFrom (length (now (v .entry))) (λ c. c) (pairs (now (v .entry)))) ⌝ }
 {
-    number_leaves(number, v.len());
+    vector::number_leaves(number, v.len());
     merges::merges(v, list, small)
 }
 

@@ -68,3 +68,15 @@ pub fn copy_out(src: &[u16], n: usize, out: &mut [u16])
         k += 1;
     }
 }
+
+// Each leaf is its own node, and its own name.
+pub fn number_leaves(number: &mut [u16], n: usize)
+    requires { ⌜ (n ≤ length (now number)) × (n ≤ 1024) ⌝ }
+    ensures { λ r. ⌜ ((c : ℕ) → c < n → getD (now (number .exit)) c 0 ≡ c) ⌝ }
+{
+    let mut c: usize = 0;
+    while c < n {
+        number[c] = c as u16;
+        c += 1;
+    }
+}

@@ -5,11 +5,11 @@ use borrow.Author.Needs.{needs}
 use Rattle.reading.proofs.children_vector.Statement.{statement}
 use Rattle.reading.proofs.children_vector.Tie as tie
 
-slice-aggregate-name-leaves : tie.Need-slice-aggregate-name-leaves
-slice-aggregate-name-leaves c = search needs
+slice-aggregate-number-leaves : tie.Need-slice-aggregate-number-leaves
+slice-aggregate-number-leaves c = search needs
 
-name-leaves-requires : tie.Need-name-leaves-requires
-name-leaves-requires c κs = search needs
+number-leaves-requires : tie.Need-number-leaves-requires
+number-leaves-requires c κs = search needs
 
 slice-aggregate-add-children : tie.Need-slice-aggregate-add-children
 slice-aggregate-add-children c = search needs
@@ -27,7 +27,7 @@ slice-aggregate-add-children-5 : tie.Need-slice-aggregate-add-children-5
 slice-aggregate-add-children-5 c = search needs
 
 add-children-requires : tie.Need-add-children-requires
-add-children-requires c κs = (c .before .before .before .before .before .before .before .before .before .before .before .pre .0 .0, added-start (c .before .before .before .before .before .before .before .before .before .before .before .pre .0 .1) (c .before .before .before .before .before .before .before .before .before .before .before .pre .0 .2) (c .before .before .before .before .before .before .before .before .before .before .before .pre .0 .3) (c .before .before .before .before .before .before .before .before .before .before .before .pre .1) (built-leaves (c .before .before .before .before .before .before .before .before .before .before .before .pre .0 .1) (search needs) (c .before .before .before .before .before .before .name-leaves .ensures)))
+add-children-requires c κs = (c .before .before .before .before .before .before .before .before .before .before .before .pre .0 .0, added-start (c .before .before .before .before .before .before .before .before .before .before .before .pre .0 .1) (c .before .before .before .before .before .before .before .before .before .before .before .pre .0 .2) (c .before .before .before .before .before .before .before .before .before .before .before .pre .0 .3) (c .before .before .before .before .before .before .before .before .before .before .before .pre .1) (built-leaves (c .before .before .before .before .before .before .before .before .before .before .before .pre .0 .1) (search needs) (c .before .before .before .before .before .before .number-leaves .ensures)))
 
 slice-aggregate-vector-of : tie.Need-slice-aggregate-vector-of
 slice-aggregate-vector-of c = search needs
@@ -51,8 +51,8 @@ pub children-vector-spec : {M : Type 1} → statement M
 children-vector-spec =
     tie.close
     (tie.spec
-    slice-aggregate-name-leaves
-    name-leaves-requires
+    slice-aggregate-number-leaves
+    number-leaves-requires
     slice-aggregate-add-children
     slice-aggregate-add-children-2
     slice-aggregate-add-children-3

@@ -5,11 +5,11 @@ use borrow.Author.Needs.{needs}
 use Rattle.reading.proofs.table_vector.Statement.{statement}
 use Rattle.reading.proofs.table_vector.Tie as tie
 
-slice-aggregate-name-leaves : tie.Need-slice-aggregate-name-leaves
-slice-aggregate-name-leaves c = search needs
+slice-aggregate-number-leaves : tie.Need-slice-aggregate-number-leaves
+slice-aggregate-number-leaves c = search needs
 
-name-leaves-requires : tie.Need-name-leaves-requires
-name-leaves-requires c κs = search needs
+number-leaves-requires : tie.Need-number-leaves-requires
+number-leaves-requires c κs = search needs
 
 slice-aggregate-read-rows : tie.Need-slice-aggregate-read-rows
 slice-aggregate-read-rows c = search needs
@@ -27,7 +27,7 @@ slice-aggregate-read-rows-5 : tie.Need-slice-aggregate-read-rows-5
 slice-aggregate-read-rows-5 c = search needs
 
 read-rows-requires : tie.Need-read-rows-requires
-read-rows-requires c κs = reads-start (c .before .before .before .before .before .before .before .before .before .before .pre .0) (c .before .before .before .before .before .before .before .before .before .before .pre .1) (c .before .before .before .before .before .before .before .before .before .before .pre .2) (built-leaves (c .before .before .before .before .before .before .before .before .before .before .pre .1) (search needs) (c .before .before .before .before .before .before .name-leaves .ensures))
+read-rows-requires c κs = reads-start (c .before .before .before .before .before .before .before .before .before .before .pre .0) (c .before .before .before .before .before .before .before .before .before .before .pre .1) (c .before .before .before .before .before .before .before .before .before .before .pre .2) (built-leaves (c .before .before .before .before .before .before .before .before .before .before .pre .1) (search needs) (c .before .before .before .before .before .before .number-leaves .ensures))
 
 slice-aggregate-vector-of : tie.Need-slice-aggregate-vector-of
 slice-aggregate-vector-of c = search needs
@@ -55,8 +55,8 @@ pub table-vector-spec : {M : Type 1} → statement M
 table-vector-spec =
     tie.close
     (tie.spec
-    slice-aggregate-name-leaves
-    name-leaves-requires
+    slice-aggregate-number-leaves
+    number-leaves-requires
     slice-aggregate-read-rows
     slice-aggregate-read-rows-2
     slice-aggregate-read-rows-3
