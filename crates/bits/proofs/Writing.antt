@@ -1,12 +1,12 @@
 -- How bits are held while a field is put behind them: pushed in from below, and all that is held stored as one word.
 -- Main results: put-held, none-held.
 use mathlib.Core.Path.{_≡_, refl, sym, ap, _∙_}
-use mathlib.Core.List.{List, [], _∷_, _++_, append-nil}
+use mathlib.Core.List.{List, _++_, append-nil}
 use Prim.Native.Nat.{ℕ, _+_, _-_, _*_, _/_, _%_, _^_, _≤_, _<_}
 use native.Mathlib.Nat.{mul-mod-left, add-zero, div-one}
 use native.Mathlib.Numerals.{add-one}
 use native.Mathlib.Omega.{arith}
-use lib.ListN.{length, take, drop, set, length-append, length-take, length-drop, length-set, take-append-drop, replicate}
+use lib.ListN.{length, take, drop, set, length-append, length-drop, length-set, take-append-drop, replicate}
 use lib.Seq.{drop-drop, drop-append-le, take-take, take-suc-set}
 use lib.Bits.{bitOr, or-shifted}
 use lib.Pow.{shl-shr, mod-pow-add, mod-mod-pow, high, low}

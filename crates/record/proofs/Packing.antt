@@ -2,12 +2,12 @@
 -- Main results: entries-due, packed.
 use mathlib.Core.Path.{_≡_, refl, sym, ap, _∙_}
 use mathlib.Core.List.{List, [], _∷_, _++_, append-nil}
-use Prim.Native.Nat.{ℕ, suc, _+_, _*_, _/_, _≤_, _<_}
+use Prim.Native.Nat.{ℕ, suc, _+_, _/_, _≤_}
 use native.Mathlib.Omega.{arith}
 use lib.ListN.{length, take, replicate}
 use lib.Seq.{take-length, take-take}
 use Rattle.rules.specs.Vector.{Valid}
-use Rattle.rules.specs.Record.{Bits, width, total, recordLength, field, fields, number, bytesOf, recordOf}
+use Rattle.rules.specs.Record.{width, total, recordLength, field, fields, number, bytesOf, recordOf}
 use Rattle.record_laws.specs.Number.{AreBits}
 use Rattle.record_laws.specs.Bytes.{bytes-take}
 use Rattle.record_laws.specs.Width.{total-one, total-most}

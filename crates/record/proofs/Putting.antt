@@ -1,21 +1,21 @@
 -- While entries are put, one by one or four by four.
 -- Main definitions: Ahead, Along. Main results: ahead-one, ahead-more, along-next.
-use mathlib.Core.Path.{_≡_, refl, sym, ap, _∙_}
-use mathlib.Core.List.{List, [], _∷_, _++_, append-assoc}
+use mathlib.Core.Path.{_≡_, refl, _∙_}
+use mathlib.Core.List.{List, _++_, append-assoc}
 use Prim.Native.Nat.{ℕ, suc, _+_, _*_, _%_, _^_, _≤_, _<_}
 use native.Mathlib.Numerals.{add-one}
 use native.Mathlib.Omega.{arith}
 use lib.ListN.{length, take, getD}
-use Rattle.rules.specs.Record.{Bits, width, total, field, fields}
+use Rattle.rules.specs.Record.{width, total, field, fields}
 use Rattle.record_laws.specs.Number.{field-joined}
-use Rattle.record_laws.specs.Width.{width-most, width-least, total-suc, total-mono}
+use Rattle.record_laws.specs.Width.{width-most, total-suc, total-mono}
 use Rattle.record_laws.specs.Fields.{Fit, fields-take}
 use Rattle.bits.specs.Four.{fourOf}
-use Rattle.bits.specs.Pending.{Held, Put}
+use Rattle.bits.specs.Pending.{Put}
 use Rattle.bits.specs.declared.Pending.{Pending}
 use Rattle.record.specs.Runs.{Run}
 use Rattle.record.specs.Entries.{PutEntries, Due}
-use Rattle.record.proofs.Runs.{total-four}
+use Rattle.record.proofs.Runs.{run-four, run-wide, total-four}
 
 pub put-then : {v : List ℕ} {i m end : ℕ} {p q r : Pending} {a b d : List ℕ} → PutEntries v i m p a q b → PutEntries v m end q b r d → PutEntries v i end p a r d
 put-then f g = record { below = g .below; count = omega (arith, f .count, g .count); held = λ front h. g .held front (f .held front h) }
@@ -128,31 +128,25 @@ pub record Along (v : List ℕ) (i₀ end : ℕ) (out₀ : List ℕ) (w : ℕ) (
   pub wide : w ≡ width i₀
 
 module _ {v : List ℕ} {i₀ end : ℕ} {out₀ : List ℕ} {w : ℕ} {p₀ : Pending} {out : List ℕ} {p : Pending} {i : ℕ} (r : Along v i₀ end out₀ w p₀ out p i) (h : i < end) where
-  whole : i + 4 ≤ end
-  whole = omega (arith, r .four, r .run .fours .last)
+  next : (i + 4 ≤ end) × ((j : ℕ) → i ≤ j → j < i + 4 → width j ≡ w)
+  next = run-four i w (r .run) (r .ahead .since) (r .four) h (r .wide)
 
   inside : i + 4 ≤ length v
-  inside = omega (arith, whole, r .ahead .due .whole)
+  inside = omega (arith, next .0, r .ahead .due .whole)
 
-  widths : (j : ℕ) → i ≤ j → j < i + 4 → width j ≡ w
-  widths j a b = let l = whole in r .run .one-width j (omega (arith, r .ahead .since)) (omega arith) ∙ sym (r .wide)
-
-  pub along-wide : (1 ≤ w) × (w ≤ 11)
-  along-wide =
-      let b = width-least i₀ (r .run .fours .from) in
-      let d = width-most i₀ (omega (arith, r .ahead .since, r .ahead .due .whole, r .ahead .due .few)) in
-      (omega (arith, r .wide), omega (arith, r .wide))
+  pub along-wide : (4 ≤ w) × (w ≤ 11)
+  along-wide = run-wide w (r .run) (omega (arith, r .ahead .since, r .ahead .due .whole, r .ahead .due .few)) (r .wide)
 
   -- the next four entries fit
   pub along-fits : (i + 4 ≤ length v) × ((j : ℕ) → i ≤ j → j < i + 4 → getD v j 0 < 2 ^ w) × (p .at + 8 ≤ length out)
-  along-fits = (inside, small v i w inside widths (r .ahead .due .fit), ahead-room (r .ahead) (omega arith))
+  along-fits = (inside, small v i w inside (next .1) (r .ahead .due .fit), ahead-room (r .ahead) (omega arith))
 
   pub along-next : (q : Pending) (after : List ℕ) → length after ≡ length out → Put p (4 * w) (fourOf v i w) out q after → Along v i₀ end out₀ w p₀ after q (i + 4)
   along-next q after e put =
       record {
         ahead =
-            ahead-more (r .ahead) (i + 4) q after (omega arith) whole e
-            (put-more (i + 4) (4 * w) (fourOf v i w) put (total-four i w widths) (fields-four v i w inside widths (r .ahead .due .fit)));
+            ahead-more (r .ahead) (i + 4) q after (omega arith) (next .0) e
+            (put-more (i + 4) (4 * w) (fourOf v i w) put (total-four i w (next .1)) (fields-four v i w inside (next .1) (r .ahead .due .fit)));
         run = r .run;
         four = omega (arith, r .four);
         wide = r .wide;

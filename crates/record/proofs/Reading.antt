@@ -1,7 +1,7 @@
 -- While entries are read, one by one or four by four.
--- Main definitions: Onward. Main results: onward-one, onward-more, running-next, entries-read, set-value.
+-- Main definitions: Onward, Running. Main results: onward-one, onward-more, running-next, entries-read, set-value.
 use mathlib.Core.Path.{_≡_, refl, sym, ap, _∙_}
-use mathlib.Core.Bool.{Bool, true, false, not}
+use mathlib.Core.Bool.{not}
 use mathlib.Core.List.{List, [], _∷_, _++_}
 use Prim.Native.Nat.{ℕ, zero, suc, _+_, _-_, _*_, _/_, _%_, _^_, _≤_, _<_}
 use native.Mathlib.Nat.{le-trans}
@@ -16,12 +16,13 @@ use Rattle.rules.specs.Order.{listed}
 use Rattle.rules.specs.Record.{Bits, width, total, number, bitsOf, anySet}
 use Rattle.record_laws.specs.Number.{AreBits, are-drop, number-cons}
 use Rattle.record_laws.specs.Bytes.{are-bits, length-bits}
-use Rattle.record_laws.specs.Width.{width-most, width-least, total-suc, total-mono, total-least, total-one}
+use Rattle.record_laws.specs.Width.{width-most, total-suc, total-mono, total-least, total-one}
 use Rattle.record_laws.specs.Window.{valueAt, value-lt}
 use Rattle.record_laws.specs.Fields.{entryFrom, entriesFrom, total-header}
 use Rattle.bits.specs.Four.{fourRead}
 use Rattle.record.specs.Runs.{Run}
 use Rattle.record.specs.Reading.{Reading, Read, Left}
+use Rattle.record.proofs.Runs.{run-four, run-wide}
 
 -- no entry is read
 read-none : (s : List ℕ) (at i : ℕ) (out : List ℕ) → Read s at i i out at out
@@ -56,7 +57,8 @@ read-four s at i w out h e =
     (read-then (read-one s (at + 2 * w) (i + 2) _ (at + 3 * w) (i + 3) _ (rw (e (i + 2) (omega arith) (omega arith)) (omega arith)) (omega arith) (rw (e (i + 2) (omega arith) (omega arith))) (simp length-set (omega arith)))
     (read-one s (at + 3 * w) (i + 3) _ (at + 4 * w) (i + 4) _ (rw (e (i + 3) (omega arith) (omega arith)) (omega arith)) (omega arith) (rw (e (i + 3) (omega arith) (omega arith))) (simp length-set (omega arith)))))
 
-pub left-fewer : {s : List ℕ} {at i end behind room : ℕ} (m : ℕ) → Left s at i end behind room → i ≤ m → m ≤ end → Left s at i m behind room
+-- fewer entries are left
+left-fewer : {s : List ℕ} {at i end behind room : ℕ} (m : ℕ) → Left s at i end behind room → i ≤ m → m ≤ end → Left s at i m behind room
 left-fewer {end = end} m l a b =
     record {
       some-read = l .some-read;
@@ -138,27 +140,22 @@ pub record Running (s : List ℕ) (at₀ i₀ end : ℕ) (out₀ : List ℕ) (w 
   pub wide : w ≡ width i₀
 
 module _ {s : List ℕ} {at₀ i₀ end : ℕ} {out₀ : List ℕ} {w at i : ℕ} {out : List ℕ} (r : Running s at₀ i₀ end out₀ w at i out) (h : i < end) where
-  whole : i + 4 ≤ end
-  whole = omega (arith, r .four, r .run .fours .last)
+  four : (i + 4 ≤ end) × ((j : ℕ) → i ≤ j → j < i + 4 → width j ≡ w)
+  four = run-four i w (r .run) (r .onward .since) (r .four) h (r .wide)
 
   read : Read s at i (i + 4) out (at + 4 * w) (fourRead s at w out i)
-  read =
-      let a = whole in
-      read-four s at i w out (omega (arith, r .onward .same, r .onward .left .fits))
-      (λ j l m. r .run .one-width j (omega (arith, r .onward .since)) (omega arith) ∙ sym (r .wide))
+  read = read-four s at i w out (omega (arith, four .0, r .onward .same, r .onward .left .fits)) (four .1)
 
   -- the next four fields lie in a word
   pub running-fits : (1 ≤ w) × (w ≤ 11) × (at / 8 + 8 ≤ length s) × (i + 4 ≤ length out)
   running-fits =
-      let a = whole in
-      let b = width-least i₀ (r .run .fours .from) in
-      let d = width-most i₀ (omega (arith, r .onward .since, r .onward .left .few)) in
-      (omega (arith, r .wide), omega (arith, r .wide), omega (arith, read .ends, total-mono (i + 4) end a, r .onward .left .inside h, r .wide), omega (arith, r .onward .same, r .onward .left .fits))
+      let a = run-wide w (r .run) (omega (arith, r .onward .since, r .onward .left .few)) (r .wide) in
+      (omega arith, a .1, omega (arith, read .ends, total-mono (i + 4) end (four .0), r .onward .left .inside h), omega (arith, four .0, r .onward .same, r .onward .left .fits))
 
   pub running-next : (after : List ℕ) → length after ≡ length out → after ≡ fourRead s at w out i → Running s at₀ i₀ end out₀ w (at + 4 * w) (i + 4) after
   running-next after e f =
       record {
-        onward = onward-more (r .onward) (i + 4) (at + 4 * w) after (omega arith) whole e (rw f read);
+        onward = onward-more (r .onward) (i + 4) (at + 4 * w) after (omega arith) (four .0) e (rw f read);
         run = r .run;
         four = omega (arith, r .four);
         wide = r .wide;

@@ -1,12 +1,12 @@
 -- Where a run of one width ends, and the bits of four entries of one width.
--- Main results: run-to, fours-on, total-four.
-use mathlib.Core.Path.{_≡_, ap, _∙_}
+-- Main results: run-to, fours-on, run-four, run-wide, total-four.
+use mathlib.Core.Path.{_≡_, sym, ap, _∙_}
 use Prim.Native.Nat.{ℕ, suc, _+_, _-_, _*_, _%_, _^_, _≤_, _<_, min}
 use native.Mathlib.Nat.{one-mul, mod-eq-of-lt}
 use native.Mathlib.Omega.{arith}
 use lib.Pow.{pow-lt}
 use Rattle.rules.specs.Record.{width, total}
-use Rattle.record_laws.specs.Width.{width-below, width-run, width-fours, total-suc}
+use Rattle.record_laws.specs.Width.{width-below, width-least, width-most, width-run, width-fours, total-suc}
 use Rattle.record.specs.Runs.{Fours, Run}
 
 -- the end of the entries of one width, as a shift makes it
@@ -49,3 +49,13 @@ total-four i w e =
       e (suc (suc i)) (omega arith) (omega arith),
       e (suc (suc (suc i))) (omega arith) (omega arith),
     ))
+
+-- within a run: the next four are whole, and have its width, which is 4 bits at least and 11 at most
+pub run-four : {i₀ end : ℕ} (i w : ℕ) → Run i₀ end → i₀ ≤ i → i % 4 ≡ 1 → i < end → w ≡ width i₀
+    → (i + 4 ≤ end) × ((j : ℕ) → i ≤ j → j < i + 4 → width j ≡ w)
+run-four {end = end} i w r a f h e =
+    let l : i + 4 ≤ end = omega (arith, f, r .fours .last) in
+    (l, λ j b d. r .one-width j (omega arith) (omega arith) ∙ sym e)
+
+pub run-wide : {i₀ end : ℕ} (w : ℕ) → Run i₀ end → i₀ ≤ 1024 → w ≡ width i₀ → (4 ≤ w) × (w ≤ 11)
+run-wide {i₀} w r h e = (omega (arith, width-least i₀ (r .fours .from)), omega (arith, width-most i₀ h))

@@ -1,7 +1,7 @@
 -- Entries by fours: from entry 5 on four entries at a time, 5 to 8, 9 to 12 and so on, have one width.
 -- Main definitions: Fours, Run.
 use mathlib.Core.Path.{_≡_}
-use Prim.Native.Nat.{ℕ, _+_, _%_, _≤_, _<_}
+use Prim.Native.Nat.{ℕ, _%_, _≤_, _<_}
 use Rattle.rules.specs.Record.{width}
 
 -- the entries from i to end are whole fours

@@ -9,7 +9,7 @@ use lib.ListN.{length, take, drop, getD, replicate, length-append, length-take, 
 use lib.Seq.{drop-drop, drop-cons, take-at, take-add, take-append-le, drop-append-le}
 use lib.Pow.{pow-mono}
 use Rattle.rules.specs.Record.{Bits, field, number, bitsOf}
-use Rattle.record_laws.specs.Number.{AreBits, are-take, are-drop, length-field, number-lt, number-of-field, number-append, number-part}
+use Rattle.record_laws.specs.Number.{are-take, are-drop, length-field, number-lt, number-of-field, number-append, number-part}
 use Rattle.record_laws.specs.Bytes.{are-bits, length-bits, bits-append, drop-bits}
 
 -- the number of w bits from bit at on

@@ -3,12 +3,12 @@
 use mathlib.Core.Bool.{Bool, true, false}
 use mathlib.Core.List.{List}
 use mathlib.Core.Option.{none, some}
-use mathlib.Core.Path.{_≡_, refl, sym, ap, _∙_}
+use mathlib.Core.Path.{_≡_, sym, ap, _∙_}
 use Prim.Native.Nat.{ℕ, _+_, _-_, _*_, _≤_, _<_, _^_}
 use native.Mathlib.Omega.{arith}
 use lib.ListN.{length, take, drop}
 use Rattle.rules.specs.Vector.{fault}
-use Rattle.rules.specs.Record.{recordLength, total, entriesOf, padding, anySet, bitsOf}
+use Rattle.rules.specs.Record.{total, entriesOf, padding, anySet, bitsOf}
 use Rattle.laws.specs.FromRecord.{Headed}
 use Rattle.record_laws.specs.Fields.{entriesFrom, entries-from-header, total-header}
 use Rattle.record_laws.specs.Inverse.{length-entries}

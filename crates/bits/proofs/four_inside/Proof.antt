@@ -1,6 +1,7 @@
--- `bits::four_inside` meets its contract: linear arithmetic on the four bytes (`word-four`).
+-- `bits::four_inside` meets its contract: the four bytes are the word (`word-four`).
 use native.Mathlib.Omega.{arith}
 use borrow.Author.Needs.{needs}
+use mathlib.Core.Path.{sym, _∙_}
 use Rattle.record_laws.specs.Window.{word-four}
 use Rattle.bits.proofs.four_inside.Statement.{statement}
 use Rattle.bits.proofs.four_inside.Tie as tie
@@ -42,7 +43,12 @@ joined-requires : tie.Need-joined-requires
 joined-requires c κs = search needs
 
 returns : tie.Need-returns
-returns c = (omega (arith, word-four (c .before .before .before .before .before .before .before .before .before .before .args .s .now) (c .before .before .before .before .before .before .before .before .before .before .args .q)), search needs)
+returns c =
+    let a = c .before .before .before .before .before .before .before .before .before .before .args in (
+      c .joined .ensures
+          ∙ rw (c .before .wide4 .ensures .0, c .before .before .before .wide3 .ensures .0, c .before .before .before .before .before .wide2 .ensures .0, c .before .before .before .before .before .before .before .wide .ensures .0) (sym (word-four (a .s .now) (a .q))),
+      search needs,
+    )
 
 pub four-inside-spec : {M : Type 1} → statement M
 four-inside-spec =

@@ -1,5 +1,4 @@
 -- `bits::low_bits` meets its contract: the mask leaves the low bits (`masked`).
-use native.Mathlib.Omega.{arith}
 use borrow.Author.Needs.{needs}
 use lib.Pow.{pow-pos}
 use Rattle.bits.proofs.Masking.{mask, masked-small, masked}

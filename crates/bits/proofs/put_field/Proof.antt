@@ -1,5 +1,4 @@
 -- `bits::put_field` meets its contract: a field without bits changes nothing (`none-held`).
-use native.Mathlib.Omega.{arith}
 use borrow.Author.Needs.{needs}
 use Rattle.bits.proofs.Writing.{none-held}
 use Rattle.bits.proofs.put_field.Statement.{statement}

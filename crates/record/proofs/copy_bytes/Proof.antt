@@ -1,5 +1,4 @@
 -- `record::copy_bytes` meets its contract: the first k bytes are copied.
-use native.Mathlib.Omega.{arith}
 use borrow.Author.Needs.{needs}
 use Prim.Native.Nat.{_-_}
 use Rattle.vector.specs.Front.{Copied, copied-start, copied-next, copied-end}

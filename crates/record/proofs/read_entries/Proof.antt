@@ -2,8 +2,7 @@
 use native.Mathlib.Omega.{arith}
 use borrow.Author.Needs.{needs}
 use mathlib.Core.Path.{_∙_}
-use Prim.Native.Nat.{_<_, _≤_}
-use lib.ListN.{length, set, length-set}
+use lib.ListN.{set, length-set}
 use Rattle.record.proofs.Reading.{Onward, entries-left, onward-left, onward-words, onward-more, read-then, entries-read}
 use Rattle.record.proofs.read_entries.Statement.{statement}
 use Rattle.record.proofs.read_entries.Tie as tie
@@ -34,7 +33,7 @@ read-fours-requires : tie.Need-read-fours-requires
 read-fours-requires c κs =
     let e = c .before .before .before .before .before .fours-end .ensures in
     let l = c .before .before .before .before .before .before .lesser .ensures in (
-      onward-words _ (on-fours (c .before .before .before)) (omega arith) (omega arith) (λ h. (omega arith, e .3 h)),
+      onward-words _ (on-fours (c .before .before .before)) (omega arith) (omega arith) (λ h. (omega arith, omega (arith, e .3 h))),
       λ h. record { from = omega arith; first = omega arith; last = omega arith },
     )
 

@@ -1,8 +1,8 @@
 -- `record::run_end` meets its contract: entries of one width go up to half of what the width holds (`run-to`).
 use native.Mathlib.Omega.{arith}
 use borrow.Author.Needs.{needs}
-use mathlib.Core.Path.{_≡_, ap, _∙_}
-use Prim.Native.Nat.{ℕ, _+_, _-_, _≤_, min}
+use mathlib.Core.Path.{_∙_}
+use Prim.Native.Nat.{_-_, _≤_}
 use Rattle.rules.specs.Record.{width}
 use Rattle.record_laws.specs.Width.{width-least, width-most}
 use Rattle.record.proofs.Runs.{run-shift, run-small, run-to}
