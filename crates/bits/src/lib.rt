@@ -149,7 +149,7 @@ fn followed(a: u64, width: u32, b: u64) -> u64
     (a << width) | b
 }
 
-fn long(x: u16) -> u64
+pub fn long(x: u16) -> u64
     ensures { λ r. ⌜ r ≡ x ⌝ }
 {
     x as u64

@@ -58,12 +58,6 @@ fn small(x: u32) -> u16
     x as u16
 }
 
-fn long(x: u16) -> u64
-    ensures { λ r. ⌜ r ≡ x ⌝ }
-{
-    x as u64
-}
-
 // Appends the fields of the entries from i to end one by one.
 fn put_singles(v: &[u16], i: usize, end: usize, out: &mut [u8], p: Pending) -> Pending
     requires { ⌜ Due (now v) i end p (length (now out)) ⌝ }
@@ -72,7 +66,7 @@ fn put_singles(v: &[u16], i: usize, end: usize, out: &mut [u8], p: Pending) -> P
     let mut q = p;
     let mut k = i;
     while k < end {
-        q = bits::put_field(out, q, field_width(k), long(v[k]));
+        q = bits::put_field(out, q, field_width(k), bits::long(v[k]));
         k += 1;
     }
     q
