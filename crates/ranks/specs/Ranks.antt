@@ -69,18 +69,6 @@ none n m d e = record {
 pub ranks-none : Ranks (λ y. false) (replicate 16 0) (replicate 1024 0)
 ranks-none = none 16 1024 refl refl
 
--- the same members
-pub ranks-cong : {f g : ℕ → Bool} {blocks names : List ℕ} → ((y : ℕ) → y < 1024 → f y ≡ g y) → Ranks f blocks names → Ranks g blocks names
-ranks-cong {f} {g} h R = record {
-  blocks-long = R .blocks-long;
-  names-long = R .names-long;
-  before = λ w l. R .before w l ∙ same (64 * w) (omega arith);
-  within = λ x l. omega (arith, R .within x l, same (64 * (x / 64)) (omega arith), same x (omega arith));
-}
-  where
-    same : (x : ℕ) → x < 1024 → count f x ≡ count g x
-    same x l = count-cong f g x (λ y k. h y (omega arith))
-
 pub rank-is : {f : ℕ → Bool} {blocks names : List ℕ} {x : ℕ} → Ranks f blocks names → x < 1024 → getD blocks (x / 64) 0 + getD names x 0 ≡ count f x
 rank-is {x = x} R h = omega (arith, R .before (x / 64) (omega arith), R .within x h)
 

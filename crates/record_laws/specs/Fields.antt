@@ -1,18 +1,16 @@
 -- The fields of entries in a row: where each starts, and that entries and their fields give each other.
 -- Main definitions: entriesFrom. Main results: fields-snoc, length-fields, field-in-row, entries-of-fields, fields-of-entries.
 use mathlib.Core.Path.{_≡_, refl, sym, ap, ap₂, _∙_}
-use mathlib.Core.Bool.{Bool, true, false}
 use mathlib.Core.List.{List, [], _∷_, _++_, append-assoc, append-nil}
 use Prim.Native.Nat.{ℕ, zero, suc, _+_, _-_, _*_, _/_, _%_, _^_, _≤_, _<_}
 use native.Mathlib.Nat.{zero-add, add-zero, add-suc, suc-add}
 use native.Mathlib.Numerals.{add-one}
 use native.Mathlib.Omega.{arith}
-use lib.ListN.{length, take, drop, getD, replicate, length-append, length-take, length-drop, List·getD-append}
-use lib.Seq.{drop-drop, drop-at, take-at, drop-append-add, take-add, take-suc, split-at, ext-getD, getD-at}
-use lib.Dec.{ltb}
-use borrow.Author.Tests.{ltb-true, ltb-false}
+use lib.ListN.{length, take, drop, getD, replicate, length-append, length-take, length-drop}
+use lib.Seq.{drop-drop, drop-at, take-at, drop-append-add, take-add, take-suc, split-at, ext-getD}
 use Rattle.rules.specs.Order.{listed}
 use Rattle.rules.specs.Record.{Bits, width, total, field, number, fields, bitsOf, entryIn, entriesOf}
+use Rattle.basics.specs.Listed.{length-listed, listed-at, listed-cong}
 use Rattle.record_laws.specs.Number.{AreBits, are-append, are-take, are-drop, are-field, length-field, number-of-field, field-of}
 use Rattle.record_laws.specs.Window.{valueAt}
 use Rattle.record_laws.specs.Width.{total-suc, total-zero, total-mono}
@@ -47,27 +45,6 @@ fields-take v k h =
     let e : 0 + length (take k v) ≡ k = rw length-take (omega arith) in
     ap (fields 0) (take-suc v k 0 h) ∙ fields-snoc 0 (take k v) (getD v k 0) ∙ ap (λ (i : ℕ). fields 0 (take k v) ++ field (width i) (getD v k 0)) e
 
-pub length-listed : (n : ℕ) (f : ℕ → ℕ) → length (listed n f) ≡ n
-unfolding listed
-length-listed zero f = refl
-length-listed (suc n) f = rw (length-append, length-listed n f) (omega arith)
-
-pub listed-at : (n : ℕ) (f : ℕ → ℕ) (i : ℕ) → i < n → getD (listed n f) i 0 ≡ f i
-unfolding listed
-listed-at zero f i h = absurd (omega arith)
-listed-at (suc n) f i h = go (ltb i n) refl (listed-at n f i)
-  where
-    go : (b : Bool) → ltb i n ≡ b → (i < n → getD (listed n f) i 0 ≡ f i) → getD (listed n f ++ (f n ∷ [])) i 0 ≡ f i
-    go true e ih = List·getD-append (listed n f) (f n ∷ []) 0 i (rw length-listed (ltb-true i n e)) ∙ ih (ltb-true i n e)
-    go false e ih =
-        let d : i ≡ n = omega (arith, ltb-false i n e) in
-        rw d (getD-at (listed n f) (f n) [] 0 n (length-listed n f))
-
-pub listed-same : (n : ℕ) (f g : ℕ → ℕ) → ((i : ℕ) → i < n → f i ≡ g i) → listed n f ≡ listed n g
-unfolding listed
-listed-same zero f g h = refl
-listed-same (suc n) f g h = ap₂ (λ (l : List ℕ) (x : ℕ). l ++ (x ∷ [])) (listed-same n f g (λ i l. h i (omega arith))) (h n (omega arith))
-
 -- entry i of entries whose fields start at a bit
 unfoldable pub entryFrom : ℕ → List ℕ → ℕ → ℕ
 unfolding valueAt
@@ -85,7 +62,7 @@ total-header i = omega (arith, rw total-zero at (total-mono 0 i (omega arith)))
 pub entries-from-header : (n : ℕ) (s : List ℕ) → entriesFrom 11 n s ≡ entriesOf n s
 unfolding entriesFrom entriesOf valueAt
 entries-from-header n s =
-    listed-same n (entryFrom 11 s) (entryIn (bitsOf s))
+    listed-cong n (entryFrom 11 s) (entryIn (bitsOf s))
     (λ i h. ap (λ (k : ℕ). number (take (width i) (drop k (bitsOf s)))) (total-header i))
 
 -- each entry within the bits of its field

@@ -19,37 +19,13 @@ use Rattle.rules.specs.Order.{listed}
 use Rattle.rules.specs.Record.{Bits, width, total, recordLength, field, number, fields, bytesOf, recordOf, bitsOf, leafCount, entryIn, entriesOf, anySet, padding}
 use Rattle.rules.specs.Answer.{Made, made, refuses}
 use Rattle.rules.specs.Calls.{refuseIf, refuseAt, refuseCount, refuseLength, fromVector, pack, fromEntries, unpack}
+use Rattle.basics.specs.Bools.{or-no}
+use Rattle.basics.specs.Listed.{length-listed}
+use Rattle.basics.specs.Fault.{no-fault-valid, valid-no-fault}
 use Rattle.record_laws.specs.Number.{AreBits, are-append, are-take, are-drop, are-field, length-field, number-of-field, field-of}
 use Rattle.record_laws.specs.Bytes.{AreBytes, are-bits, length-bits, length-bytes, are-bytes, bits-of-bytes, bytes-unique}
 use Rattle.record_laws.specs.Width.{width-fits, total-zero, total-mono, record-length-least, record-length-bits}
-use Rattle.record_laws.specs.Fields.{Fit, are-fields, length-fields, length-listed, listed-at, total-header, field-in-row, entries-of-fields, fields-of-entries}
-
--- entries within their bounds have no fault
-fault-none : (i : ℕ) (v : List ℕ) → ((k : ℕ) → k < length v → getD v k 0 ≤ bound (i + k)) → fault i v ≡ none
-unfolding fault
-fault-none i [] h = refl
-fault-none i (x ∷ v) h =
-    rw (le-ltb (bound i) x (rw add-zero at (h 0 (omega arith))))
-    (fault-none (i + 1) v (λ k l. let e : i + suc k ≡ i + 1 + k = omega arith in rw e at (h (suc k) (omega arith))))
-
-pub valid-fault : (v : List ℕ) → Valid v → fault 0 v ≡ none
-unfolding entry
-valid-fault v h = fault-none 0 v (λ k l. rw zero-add (h .bounded k l))
-
-bounded-of : (i : ℕ) (v : List ℕ) → fault i v ≡ none → (k : ℕ) → k < length v → getD v k 0 ≤ bound (i + k)
-unfolding fault
-bounded-of i [] e k l = absurd (omega arith)
-bounded-of i (x ∷ v) e k l = go (ltb (bound i) x) refl e k l (bounded-of (i + 1) v)
-  where
-    go : (b : Bool) → ltb (bound i) x ≡ b → cond b (some i) (fault (i + 1) v) ≡ none → (k : ℕ) → k < length (x ∷ v)
-        → (fault (i + 1) v ≡ none → (j : ℕ) → j < length v → getD v j 0 ≤ bound (i + 1 + j)) → getD (x ∷ v) k 0 ≤ bound (i + k)
-    go true q e k l ih = let z : _≡_ {A = ℕ} 0 1 = cc in absurd (omega arith)
-    go false q e zero l ih = rw add-zero (ltb-false (bound i) x q)
-    go false q e (suc k) l ih = let d : i + 1 + k ≡ i + suc k = omega arith in rw d at (ih e k (omega arith))
-
-pub fault-valid : (v : List ℕ) → 1 ≤ length v → fault 0 v ≡ none → Valid v
-unfolding entry
-fault-valid v l e = record { some-leaf = l; bounded = λ i h. rw zero-add at (bounded-of 0 v e i h) }
+use Rattle.record_laws.specs.Fields.{Fit, are-fields, length-fields, total-header, field-in-row, entries-of-fields, fields-of-entries}
 
 -- bits of which none is set are zero bits
 zeros-unset : (k : ℕ) → anySet (replicate k 0) ≡ false
@@ -89,10 +65,6 @@ record-bits v =
     rw row-length at
     (bits-of-bytes (recordLength (length v)) (row v) (row-bits v) (rw row-length (record-length-bits (length v) .0)))
 
-pub are-record-bytes : (v : List ℕ) → AreBytes (recordOf v)
-unfolding recordOf
-are-record-bytes v = are-bytes (recordLength (length v)) (row v) (row-bits v)
-
 -- a valid vector's entries fit their fields
 pub valid-fit : (v : List ℕ) → Valid v → Fit v
 unfolding Fit entry
@@ -126,15 +98,11 @@ unfolding refuseAt
 at-made k none m v e = (refl, e)
 at-made k (some p) m v e = let z : _≡_ {A = ℕ} 0 1 = cc in absurd (omega arith)
 
-or-false : (a b : Bool) → a || b ≡ false → (a ≡ false) × (b ≡ false)
-or-false true b e = absurd (true≢false e)
-or-false false b e = (refl, e)
-
 count-made : (n : ℕ) (m : Made) (v : List ℕ) → refuseCount n m ≡ made v → (1 ≤ n) × (n ≤ 1024) × (m ≡ made v)
 unfolding refuseCount
 count-made n m v e =
     let h = if-made (eqb n 0 || ltb 1024 n) 1 0 m v e in
-    let k = or-false (eqb n 0) (ltb 1024 n) (h .0) in
+    let k = or-no (eqb n 0) (ltb 1024 n) (h .0) in
     let z : (n ≡ 0 → ⊥) = eqb-false n 0 (k .0) in
     (omega arith, ltb-false 1024 n (k .1), h .1)
 
@@ -211,7 +179,7 @@ unpack-record v h l =
       entries-record v h,
       padding-record v,
     )
-    (entries-via-passes v (recordLength (length v) - 1) (valid-fault v h))
+    (entries-via-passes v (recordLength (length v) - 1) (valid-no-fault v h))
 
 pub length-entries : (n : ℕ) (s : List ℕ) → length (entriesOf n s) ≡ n
 unfolding entriesOf
@@ -264,7 +232,7 @@ accepted s v h e =
     let a = unpack-via-made (length s) (leafCount s) (recordLength (leafCount s)) (entriesVia (entriesOf (leafCount s) s) (anySet (padding (leafCount s) s)) (length s - 1)) v (sym (unpack-via s) ∙ e) in
     let b = entries-via-made (entriesOf (leafCount s) s) (anySet (padding (leafCount s) s)) (length s - 1) v (a .3) in
     let k : length (entriesOf (leafCount s) s) ≡ leafCount s = length-entries (leafCount s) s in
-    let i : Packs (entriesOf (leafCount s) s) = record { valid = fault-valid (entriesOf (leafCount s) s) (rw k (a .0)) (b .0); few = rw k (a .1) } in
+    let i : Packs (entriesOf (leafCount s) s) = record { valid = no-fault-valid (entriesOf (leafCount s) s) (rw k (a .0)) (b .0); few = rw k (a .1) } in
     (rw (b .2) at i, sym (record-of-entries s (leafCount s) h refl (a .2) (b .1)) ∙ ap recordOf (b .2))
 
 -- unpacking takes exactly the records of valid vectors of up to 1,024 entries
@@ -280,13 +248,13 @@ unfolding pack fromVector
 pack-made v s e =
     let a = count-made (length v) (refuseAt 4 (fault 0 v) (made (recordOf v))) s e in
     let b = at-made 4 (fault 0 v) (made (recordOf v)) s (a .2) in
-    (record { valid = fault-valid v (a .0) (b .0); few = a .1 }, made-same (sym (b .1)))
+    (record { valid = no-fault-valid v (a .0) (b .0); few = a .1 }, made-same (sym (b .1)))
 
 pub pack-record : (v : List ℕ) → Packs v → pack v ≡ made (recordOf v)
 unfolding pack fromVector
 pack-record v h =
     count-passes (length v) (refuseAt 4 (fault 0 v) (made (recordOf v))) (h .valid .some-leaf) (h .few)
-    ∙ ap (λ (o : Option ℕ). refuseAt 4 o (made (recordOf v))) (valid-fault v (h .valid))
+    ∙ ap (λ (o : Option ℕ). refuseAt 4 o (made (recordOf v))) (valid-no-fault v (h .valid))
 
 -- packing and unpacking are inverse, both ways
 pub pack-unpack : (v s : List ℕ) → AreBytes s → (pack v ≡ made s) ↔ (unpack s ≡ made v)

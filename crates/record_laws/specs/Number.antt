@@ -135,12 +135,6 @@ field-joined j k x y h =
     ∙ rw (high x k h, low x k h)
     (sym (number-append (field j x) (field k y) ∙ rw (length-field k y, number-field j x, number-of-field k y h))))
 
--- a field depends on the number modulo 2 ^ w only
-pub field-same : (w x y : ℕ) → x % 2 ^ w ≡ y % 2 ^ w → field w x ≡ field w y
-field-same w x y e =
-    number-injective (field w x) (field w y) (are-field w x) (are-field w y)
-    (length-field w x ∙ sym (length-field w y)) (number-field w x ∙ e ∙ sym (number-field w y))
-
 -- bits are the field of their number
 pub field-number : (bs : Bits) → AreBits bs → field (length bs) (number bs) ≡ bs
 field-number bs h =

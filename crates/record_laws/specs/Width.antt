@@ -82,15 +82,6 @@ pub width-fits : (i x : ℕ) → x ≤ bound i → x < 2 ^ width i
 unfolding width
 width-fits i x h = omega (arith, needed-lt (bound i), h)
 
--- the first two entries take no bits
-pub width-zero : width 0 ≡ 0
-unfolding width
-width-zero = refl
-
-pub width-one : width 1 ≡ 0
-unfolding width
-width-one = refl
-
 -- an entry's field has at most 11 bits
 pub width-most : (i : ℕ) → i ≤ 1024 → width i ≤ 11
 unfolding width bound
@@ -134,10 +125,6 @@ total-zero = refl
 pub total-one : total 1 ≡ 11
 unfolding total
 total-one = refl
-
-pub total-two : total 2 ≡ 11
-unfolding total
-total-two = refl
 
 pub total-last : total 1024 ≡ 10240
 unfolding total

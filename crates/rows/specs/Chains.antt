@@ -87,11 +87,6 @@ apart-append [] ys a b f = b
 apart-append (z ∷ xs) ys a b f =
     (λ h. ⊎-elim (a .0) (f z (inl refl)) (in-cases z xs ys h), apart-append xs ys (a .1) b (λ x h. f x (inr h)))
 
-pub falling-cong : (c d : ℕ → List ℕ) (n : ℕ) → ((k : ℕ) → k < n → c k ≡ d k) → falling c n ≡ falling d n
-unfolding falling
-falling-cong c d zero h = refl
-falling-cong c d (suc n) h = ap₂ (λ (xs ys : List ℕ). xs ++ ys) (h n (omega arith)) (falling-cong c d n (λ k l. h k (omega arith)))
-
 pub falling-none : (c : ℕ → List ℕ) (n : ℕ) → ((k : ℕ) → k < n → c k ≡ []) → falling c n ≡ []
 unfolding falling
 falling-none c zero h = refl
@@ -113,11 +108,6 @@ unfolding falling In
 in-run c zero x h = absurd h
 in-run c (suc n) x h =
     ⊎-elim (λ j. (n, omega arith, j)) (λ j. let k = in-run c n x j in (k .0, omega arith, k .2)) (in-cases x (c n) (falling c n) h)
-
-pub merges-append : (s : ℕ → ℕ) (xs ys : List ℕ) → mergesOf s (xs ++ ys) ≡ mergesOf s xs ++ mergesOf s ys
-unfolding mergesOf
-merges-append s [] ys = refl
-merges-append s (i ∷ xs) ys = ap (λ (ms : List Merge). (s i, i) ∷ ms) (merges-append s xs ys)
 
 -- no larger name is below the lowest
 pub lowest-le : (m : ℕ) (t : Tree) (i : ℕ) → Pair t i → lowest m t ≤ i
