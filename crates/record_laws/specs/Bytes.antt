@@ -16,11 +16,6 @@ unfoldable pub AreBytes : List ℕ → Type 0
 AreBytes [] = Unit {0}
 AreBytes (b ∷ s) = (b < 256) × AreBytes s
 
-pub bytes-each : (s : List ℕ) → ((i : ℕ) → getD s i 0 < 256) → AreBytes s
-unfolding AreBytes
-bytes-each [] h = tt
-bytes-each (b ∷ s) h = (h 0, bytes-each s (λ i. h (suc i)))
-
 pub are-bits : (s : List ℕ) → AreBits (bitsOf s)
 unfolding AreBits bitsOf
 are-bits [] = tt

@@ -14,17 +14,6 @@ use borrow.Author.Tests.{ltb-true, ltb-false}
 use Rattle.rules.specs.Vector.{bound}
 use Rattle.rules.specs.Record.{bitsWithin, bitsNeeded, width, total, recordLength}
 
--- looking at more bits changes nothing
-within-enough : (f g n : ℕ) → n ≤ f → n ≤ g → bitsWithin f n ≡ bitsWithin g n
-unfolding bitsWithin
-within-enough zero zero n a b = refl
-within-enough zero (suc g) zero a b = refl
-within-enough zero (suc g) (suc n) a b = absurd (omega arith)
-within-enough (suc f) zero zero a b = refl
-within-enough (suc f) zero (suc n) a b = absurd (omega arith)
-within-enough (suc f) (suc g) zero a b = refl
-within-enough (suc f) (suc g) (suc n) a b = ap suc (within-enough f g (suc n / 2) (half-le a) (half-le b))
-
 within-lt : (f n : ℕ) → n ≤ f → n < 2 ^ bitsWithin f n
 unfolding bitsWithin
 within-lt zero zero h = lit< tt

@@ -9,15 +9,12 @@ use Rattle.capi.proofs.blathersike_check.Lts as lts
 use Rattle.capi.proofs.hand_back.Reads as hand-back-reads
 use Rattle.trees.proofs.check.Reads as check-reads
 
--- src/lib.rt:30:15
 check-requires : tie.Need-check-requires
 check-requires c κs = search needs
 
--- src/lib.rt:30:5
 hand-back-requires : tie.Need-hand-back-requires
 hand-back-requires c κs = search needs
 
--- src/lib.rt:26:1
 returns : tie.Need-returns
 returns c = c .hand-back .ensures ∙ ap coded.coded (c .before .before .check .ensures)
 

@@ -9,19 +9,15 @@ use Rattle.capi.proofs.blathersike_from_newick.Lts as lts
 use Rattle.capi.proofs.hand_back.Reads as hand-back-reads
 use Rattle.trees.proofs.from_newick.Reads as from-newick-reads
 
--- src/lib.rt:70:15
 from-newick-requires : tie.Need-from-newick-requires
 from-newick-requires c κs = search needs
 
--- src/lib.rt:70:5
 hand-back-requires : tie.Need-hand-back-requires
 hand-back-requires c κs = search needs
 
--- src/lib.rt:66:1
 same-length : tie.Need-same-length
 same-length c = search needs
 
--- src/lib.rt:66:1
 returns : tie.Need-returns
 returns c = let T = c .before .before .before .before .from-newick .ensures in
     (T .0, T .1, c .hand-back .ensures ∙ ap coded.coded (T .2), T .3)

@@ -9,19 +9,15 @@ use Rattle.capi.proofs.blathersike_from_table.Lts as lts
 use Rattle.capi.proofs.hand_back.Reads as hand-back-reads
 use Rattle.trees.proofs.from_table.Reads as from-table-reads
 
--- src/lib.rt:53:15
 from-table-requires : tie.Need-from-table-requires
 from-table-requires c κs = search needs
 
--- src/lib.rt:53:5
 hand-back-requires : tie.Need-hand-back-requires
 hand-back-requires c κs = search needs
 
--- src/lib.rt:43:1
 same-length : tie.Need-same-length
 same-length c = search needs
 
--- src/lib.rt:43:1
 returns : tie.Need-returns
 returns c = (c .hand-back .ensures ∙ ap coded.coded (c .before .before .before .before .from-table .ensures .0), c .before .before .before .before .from-table .ensures .1)
 

@@ -9,19 +9,15 @@ use Rattle.capi.proofs.blathersike_pack.Lts as lts
 use Rattle.capi.proofs.hand_back.Reads as hand-back-reads
 use Rattle.trees.proofs.pack.Reads as pack-reads
 
--- src/lib.rt:79:15
 pack-requires : tie.Need-pack-requires
 pack-requires c κs = search needs
 
--- src/lib.rt:79:5
 hand-back-requires : tie.Need-hand-back-requires
 hand-back-requires c κs = search needs
 
--- src/lib.rt:74:1
 same-length : tie.Need-same-length
 same-length c = search needs
 
--- src/lib.rt:74:1
 returns : tie.Need-returns
 returns c = (c .hand-back .ensures ∙ ap coded.coded (c .before .before .before .before .pack .ensures .0), c .before .before .before .before .pack .ensures .1)
 

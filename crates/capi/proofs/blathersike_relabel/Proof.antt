@@ -9,19 +9,15 @@ use Rattle.capi.proofs.blathersike_relabel.Lts as lts
 use Rattle.capi.proofs.hand_back.Reads as hand-back-reads
 use Rattle.trees.proofs.relabel.Reads as relabel-reads
 
--- src/lib.rt:112:15
 relabel-requires : tie.Need-relabel-requires
 relabel-requires c κs = search needs
 
--- src/lib.rt:112:5
 hand-back-requires : tie.Need-hand-back-requires
 hand-back-requires c κs = search needs
 
--- src/lib.rt:107:1
 same-length : tie.Need-same-length
 same-length c = search needs
 
--- src/lib.rt:107:1
 returns : tie.Need-returns
 returns c = (c .hand-back .ensures ∙ ap coded.coded (c .before .before .before .before .relabel .ensures .0), c .before .before .before .before .relabel .ensures .1)
 

@@ -9,23 +9,18 @@ use Rattle.capi.proofs.blathersike_shuffle.Lts as lts
 use Rattle.capi.proofs.hand_back.Reads as hand-back-reads
 use Rattle.trees.proofs.shuffle.Reads as shuffle-reads
 
--- src/lib.rt:103:15
 shuffle-requires : tie.Need-shuffle-requires
 shuffle-requires c κs = search needs
 
--- src/lib.rt:103:5
 hand-back-requires : tie.Need-hand-back-requires
 hand-back-requires c κs = search needs
 
--- src/lib.rt:92:1
 same-length : tie.Need-same-length
 same-length c = search needs
 
--- src/lib.rt:92:1
 same-length-2 : tie.Need-same-length-2
 same-length-2 c = search needs
 
--- src/lib.rt:92:1
 returns : tie.Need-returns
 returns c = (c .hand-back .ensures ∙ ap coded.coded (c .before .before .before .before .before .before .shuffle .ensures .0), c .before .before .before .before .before .before .shuffle .ensures .1)
 

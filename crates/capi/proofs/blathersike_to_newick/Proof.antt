@@ -9,19 +9,15 @@ use Rattle.capi.proofs.blathersike_to_newick.Lts as lts
 use Rattle.capi.proofs.hand_back.Reads as hand-back-reads
 use Rattle.trees.proofs.to_newick.Reads as to-newick-reads
 
--- src/lib.rt:62:15
 to-newick-requires : tie.Need-to-newick-requires
 to-newick-requires c κs = search needs
 
--- src/lib.rt:62:5
 hand-back-requires : tie.Need-hand-back-requires
 hand-back-requires c κs = search needs
 
--- src/lib.rt:57:1
 same-length : tie.Need-same-length
 same-length c = search needs
 
--- src/lib.rt:57:1
 returns : tie.Need-returns
 returns c = (c .hand-back .ensures ∙ ap coded.coded (c .before .before .before .before .to-newick .ensures .0), c .before .before .before .before .to-newick .ensures .1)
 

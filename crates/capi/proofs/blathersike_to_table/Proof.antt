@@ -9,19 +9,15 @@ use Rattle.capi.proofs.blathersike_to_table.Lts as lts
 use Rattle.capi.proofs.hand_back.Reads as hand-back-reads
 use Rattle.trees.proofs.to_table.Reads as to-table-reads
 
--- src/lib.rt:39:15
 to-table-requires : tie.Need-to-table-requires
 to-table-requires c κs = search needs
 
--- src/lib.rt:39:5
 hand-back-requires : tie.Need-hand-back-requires
 hand-back-requires c κs = search needs
 
--- src/lib.rt:34:1
 same-length : tie.Need-same-length
 same-length c = search needs
 
--- src/lib.rt:34:1
 returns : tie.Need-returns
 returns c = (c .hand-back .ensures ∙ ap coded.coded (c .before .before .before .before .to-table .ensures .0), c .before .before .before .before .to-table .ensures .1)
 

@@ -9,19 +9,15 @@ use Rattle.capi.proofs.blathersike_unpack.Lts as lts
 use Rattle.capi.proofs.hand_back.Reads as hand-back-reads
 use Rattle.trees.proofs.unpack.Reads as unpack-reads
 
--- src/lib.rt:88:15
 unpack-requires : tie.Need-unpack-requires
 unpack-requires c κs = search needs
 
--- src/lib.rt:88:5
 hand-back-requires : tie.Need-hand-back-requires
 hand-back-requires c κs = search needs
 
--- src/lib.rt:83:1
 same-length : tie.Need-same-length
 same-length c = search needs
 
--- src/lib.rt:83:1
 returns : tie.Need-returns
 returns c = (c .hand-back .ensures ∙ ap coded.coded (c .before .before .before .before .unpack .ensures .0), c .before .before .before .before .unpack .ensures .1)
 

@@ -8,24 +8,19 @@ use Rattle.capi.proofs.hand_back.Reads as reads
 use Rattle.capi.proofs.hand_back.Lts as lts
 use Rattle.kinds.proofs.number_of.Reads as number-of-reads
 
--- src/lib.rt:15:22
 enum-known-given : tie.Need-enum-known-given
 enum-known-given c = search needs
 
--- src/lib.rt:18:25
 enum-known-given-2 : tie.Need-enum-known-given-2
 enum-known-given-2 c = search needs
 
--- src/lib.rt:20:22
 number-of-requires : tie.Need-number-of-requires
 number-of-requires c κs = search needs
 
--- src/lib.rt:11:1
 returns : tie.Need-returns
 unfolding coded.coded answers.reads
 returns c = rw (c .before .before .given .given .1)
 
--- src/lib.rt:11:1
 returns-2 : tie.Need-returns-2
 unfolding coded.coded answers.reads
 returns-2 c = rw (c .before .before .before .given2 .given .1, c .before .number-of .ensures)

@@ -10,49 +10,39 @@ use Rattle.line.proofs.line.Lts as lts
 use Rattle.line.proofs.write_line.Reads as write-line-reads
 use Rattle.trees.proofs.unpack.Reads as unpack-reads
 
--- src/lib.rt:21:34
 slice-aggregate-unpack : tie.Need-slice-aggregate-unpack
 slice-aggregate-unpack c = search needs
 
--- src/lib.rt:21:9
 unpack-requires : tie.Need-unpack-requires
 unpack-requires c κs = search needs
 
--- src/lib.rt:22:22
 enum-known-given : tie.Need-enum-known-given
 enum-known-given c = search needs
 
--- src/lib.rt:23:9
 enum-told : tie.Need-enum-told
 enum-told c = search needs
 
--- src/lib.rt:23:9
 returns : tie.Need-returns
 unfolding answers.reads answers.numberOf
 returns c = let M = line-refused _ _ _ _ _ _ refl (ap answers.reads (sym (c .enum-told .given .1)) ∙ c .before .before .before .unpack .ensures .0) in
     (ap answers.reads (c .enum-told .given .1) ∙ M .outcome, M .buffer)
 
--- src/lib.rt:25:29
 array-share-prefix-vector : tie.Need-array-share-prefix-vector
 unfolding answers.reads answers.numberOf
 array-share-prefix-vector c = (accepted _ _ _ _ _ (ap answers.reads (sym (c .before .given .given .1)) ∙ c .before .before .before .before .unpack .ensures .0) (c .before .before .before .before .unpack .ensures .1)) .within
 
--- src/lib.rt:25:29
 slice-aggregate-write-line : tie.Need-slice-aggregate-write-line
 unfolding answers.reads answers.numberOf
 slice-aggregate-write-line c = (accepted _ _ _ _ _ (ap answers.reads (sym (c .before .before .given .given .1)) ∙ c .before .before .before .before .before .unpack .ensures .0) (c .before .before .before .before .before .unpack .ensures .1)) .count
 
--- src/lib.rt:25:18
 write-line-requires : tie.Need-write-line-requires
 unfolding answers.reads answers.numberOf
 write-line-requires c κs = let A = accepted _ _ _ _ _ (ap answers.reads (sym (c .before .before .before .given .given .1)) ∙ c .before .before .before .before .before .before .unpack .ensures .0) (c .before .before .before .before .before .before .unpack .ensures .1) in
     (A .sound .valid, A .sound .few, c .before .before .before .before .before .before .before .before .before .before .pre)
 
--- src/lib.rt:15:1
 same-length : tie.Need-same-length
 same-length c = search needs
 
--- src/lib.rt:15:1
 returns-2 : tie.Need-returns-2
 unfolding answers.reads answers.numberOf
 returns-2 c = let M = line-done _ _ _ _ _ _ (accepted _ _ _ _ _ (ap answers.reads (sym (c .before .before .before .before .before .before .given .given .1)) ∙ c .before .before .before .before .before .before .before .before .before .unpack .ensures .0) (c .before .before .before .before .before .before .before .before .before .unpack .ensures .1)) (c .before .before .before .before .before .before .before .before .before .before .before .before .before .pre) (c .before .before .write-line .ensures) in

@@ -17,65 +17,50 @@ Inv-loop v out₀ at x₀ i₀ out x i = (before : List ℕ) → Listed v at bef
 abbrev μ-loop : tie.MeasureT-loop
 μ-loop v out₀ at x₀ i₀ out x i = length v - i
 
--- src/lib.rt:56:50
 shared-slice-read-wide : tie.Need-shared-slice-read-wide Inv-loop μ-loop
 shared-slice-read-wide c = search needs
 
--- src/lib.rt:56:37
 wide-requires : tie.Need-wide-requires Inv-loop μ-loop
 wide-requires c κs = search needs
 
--- src/lib.rt:56:9
 write-label-requires : tie.Need-write-label-requires Inv-loop μ-loop
 write-label-requires c κs = (rw (c .before .wide .ensures) (entry-small _ 0 (c .before .before .before .before .before .pre .0) (c .before .before .before .before .before .pre .1) (c .before .before .before .before .before .pre .0 .some-leaf)), omega (arith, c .before .before .before .before .before .pre .2, c .before .before .before .before .before .pre .0 .some-leaf, digits-at-most 4 (c .before .wide .result)))
 
--- src/lib.rt:58:5
 loop-holds : tie.Need-loop-holds Inv-loop μ-loop
 loop-holds c = λ before L. L
 
--- src/lib.rt:59:9
 slice-write-out : tie.Need-slice-write-out Inv-loop μ-loop
 slice-write-out c = omega (arith, listed-room (c .before .loop .inv (c .before .before .before .before .before .before .before .before .before .before .args .out .now) (listed-start (c .before .before .before .before .before .before .before .before .before .before .pre .0) (c .before .before .before .before .before .before .before .before .before .before .pre .1) (c .before .before .before .before .before .before .before .before .before .before .pre .2) (c .before .before .before .before .before .before .wide .ensures) (c .before .before .before .before .write-label .ensures))) (c .loop-test .taken))
 
--- src/lib.rt:60:46
 mul-wide : tie.Need-mul-wide Inv-loop μ-loop
 mul-wide c = search needs
 
--- src/lib.rt:60:46
 shared-slice-read-wide-2 : tie.Need-shared-slice-read-wide-2 Inv-loop μ-loop
 shared-slice-read-wide-2 c = search needs
 
--- src/lib.rt:60:33
 wide-requires-2 : tie.Need-wide-requires-2 Inv-loop μ-loop
 wide-requires-2 c κs = search needs
 
--- src/lib.rt:60:58
 add-write-label : tie.Need-add-write-label Inv-loop μ-loop
 add-write-label c = let L = (c .before .before .before .before .loop .inv (c .before .before .before .before .before .before .before .before .before .before .before .before .before .args .out .now) (listed-start (c .before .before .before .before .before .before .before .before .before .before .before .before .before .pre .0) (c .before .before .before .before .before .before .before .before .before .before .before .before .before .pre .1) (c .before .before .before .before .before .before .before .before .before .before .before .before .before .pre .2) (c .before .before .before .before .before .before .before .before .before .wide .ensures) (c .before .before .before .before .before .before .before .write-label .ensures))) in
     omega (arith, listed-room L (c .before .before .before .loop-test .taken), listed-same L)
 
--- src/lib.rt:60:9
 write-label-requires-2 : tie.Need-write-label-requires-2 Inv-loop μ-loop
 write-label-requires-2 c κs = let L = (c .before .before .before .before .loop .inv (c .before .before .before .before .before .before .before .before .before .before .before .before .before .args .out .now) (listed-start (c .before .before .before .before .before .before .before .before .before .before .before .before .before .pre .0) (c .before .before .before .before .before .before .before .before .before .before .before .before .before .pre .1) (c .before .before .before .before .before .before .before .before .before .before .before .before .before .pre .2) (c .before .before .before .before .before .before .before .before .before .wide .ensures) (c .before .before .before .before .before .before .before .write-label .ensures))) in
     (rw (c .before .wide2 .ensures) (entry-small _ _ (L .valid) (L .few) (c .before .before .before .loop-test .taken)), entry-room L _ (c .before .before .before .loop-test .taken))
 
--- src/lib.rt:61:9
 add-i : tie.Need-add-i Inv-loop μ-loop
 add-i c = search needs
 
--- src/lib.rt:58:5
 loop-less : tie.Need-loop-less Inv-loop μ-loop
 loop-less c = search needs
 
--- src/lib.rt:58:5
 loop-again : tie.Need-loop-again Inv-loop μ-loop
 loop-again c = λ before L. listed-next (c .before .before .before .before .before .before .before .loop .inv before L) (c .before .before .before .before .before .before .loop-test .taken) (c .before .before .before .before .wide2 .ensures) (c .before .before .write-label2 .ensures)
 
--- src/lib.rt:52:1
 same-length : tie.Need-same-length Inv-loop μ-loop
 same-length c = listed-same (c .before .loop .inv (c .before .before .before .before .before .before .before .before .before .before .args .out .now) (listed-start (c .before .before .before .before .before .before .before .before .before .before .pre .0) (c .before .before .before .before .before .before .before .before .before .before .pre .1) (c .before .before .before .before .before .before .before .before .before .before .pre .2) (c .before .before .before .before .before .before .wide .ensures) (c .before .before .before .before .write-label .ensures)))
 
--- src/lib.rt:52:1
 returns : tie.Need-returns Inv-loop μ-loop
 returns c = listed-end (c .before .loop .inv (c .before .before .before .before .before .before .before .before .before .before .args .out .now) (listed-start (c .before .before .before .before .before .before .before .before .before .before .pre .0) (c .before .before .before .before .before .before .before .before .before .before .pre .1) (c .before .before .before .before .before .before .before .before .before .before .pre .2) (c .before .before .before .before .before .before .wide .ensures) (c .before .before .before .before .write-label .ensures))) (c .loop-test .left)
 

@@ -11,35 +11,27 @@ use Rattle.line.proofs.write_front.Lts as lts
 use Rattle.line.proofs.write_entries.Reads as write-entries-reads
 use Rattle.text_writer.proofs.write_label.Reads as write-label-reads
 
--- src/lib.rt:44:9
 write-label-requires : tie.Need-write-label-requires
 write-label-requires c κs = (omega (arith, c .before .before .before .pre .1), omega (arith, c .before .before .before .pre .2, digits-at-most 4 (length (c .before .before .before .args .v .now))))
 
--- src/lib.rt:45:5
 slice-write-out : tie.Need-slice-write-out
 slice-write-out c = omega (arith, c .before .before .before .before .before .before .pre .2, c .before .before .write-label .ensures .end, wrote-same (c .before .before .write-label .ensures), digits-at-most 4 (length (c .before .before .before .before .before .before .args .v .now)))
 
--- src/lib.rt:46:35
 add-write-entries : tie.Need-add-write-entries
 add-write-entries c = omega (arith, c .before .before .before .before .before .before .before .pre .2, c .before .before .before .write-label .ensures .end, digits-at-most 4 (length (c .before .before .before .before .before .before .before .args .v .now)))
 
--- src/lib.rt:46:9
 write-entries-requires : tie.Need-write-entries-requires
 write-entries-requires c κs = (c .before .before .before .before .before .before .before .pre .0, c .before .before .before .before .before .before .before .pre .1, omega (arith, c .before .before .before .before .before .before .before .pre .2, c .before .before .before .write-label .ensures .end, wrote-same (c .before .before .before .write-label .ensures), digits-at-most 4 (length (c .before .before .before .before .before .before .before .args .v .now)), length-set (c .before .before .before .write-label .last .1 .0) (c .before .before .before .write-label .result) 32))
 
--- src/lib.rt:47:5
 slice-write-out-2 : tie.Need-slice-write-out-2
 slice-write-out-2 c = omega (arith, c .before .before .before .before .before .before .before .before .before .before .pre .2, c .before .before .before .before .before .before .write-label .ensures .end, wrote-same (c .before .before .before .before .before .before .write-label .ensures), digits-at-most 4 (length (c .before .before .before .before .before .before .before .before .before .before .args .v .now)), length-set (c .before .before .before .before .before .before .write-label .last .1 .0) (c .before .before .before .before .before .before .write-label .result) 32, c .before .before .write-entries .ensures .end, wrote-same (c .before .before .write-entries .ensures), commaed-at-most (c .before .before .before .before .before .before .before .before .before .before .args .v .now))
 
--- src/lib.rt:48:5
 add-result : tie.Need-add-result
 add-result c = omega (arith, c .before .before .before .before .before .before .before .before .before .before .pre .2, c .before .before .before .before .before .before .write-label .ensures .end, digits-at-most 4 (length (c .before .before .before .before .before .before .before .before .before .before .args .v .now)), c .before .before .write-entries .ensures .end, commaed-at-most (c .before .before .before .before .before .before .before .before .before .before .args .v .now))
 
--- src/lib.rt:40:1
 same-length : tie.Need-same-length
 same-length c = wrote-same (front-written _ (c .before .before .before .before .before .before .write-label .ensures) (c .before .before .write-entries .ensures))
 
--- src/lib.rt:40:1
 returns : tie.Need-returns
 returns c = front-written _ (c .before .before .before .before .before .before .write-label .ensures) (c .before .before .write-entries .ensures)
 

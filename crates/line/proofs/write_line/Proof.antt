@@ -10,27 +10,21 @@ use Rattle.line.proofs.write_line.Lts as lts
 use Rattle.line.proofs.write_front.Reads as write-front-reads
 use Rattle.line.proofs.write_text.Reads as write-text-reads
 
--- src/lib.rt:33:9
 write-front-requires : tie.Need-write-front-requires
 write-front-requires c κs = (c .before .before .before .pre .0, c .before .before .before .pre .1, omega (arith, c .before .before .before .pre .1, c .before .before .before .pre .2))
 
--- src/lib.rt:34:9
 write-text-requires : tie.Need-write-text-requires
 write-text-requires c κs = (c .before .before .before .before .before .before .before .pre .0, c .before .before .before .before .before .before .before .pre .1, omega (arith, c .before .before .before .before .before .before .before .pre .1, c .before .before .before .before .before .before .before .pre .2, c .before .before .before .write-front .ensures .end, wrote-same (c .before .before .before .write-front .ensures), front-at-most (c .before .before .before .before .before .before .before .args .v .now)))
 
--- src/lib.rt:35:5
 slice-write-out : tie.Need-slice-write-out
 slice-write-out c = omega (arith, c .before .before .before .before .before .before .before .before .before .before .pre .1, c .before .before .before .before .before .before .before .before .before .before .pre .2, c .before .before .before .before .before .before .write-front .ensures .end, wrote-same (c .before .before .before .before .before .before .write-front .ensures), front-at-most (c .before .before .before .before .before .before .before .before .before .before .args .v .now), c .before .before .write-text .ensures .end, wrote-same (c .before .before .write-text .ensures), text-at-most (c .before .before .before .before .before .before .before .before .before .before .args .v .now) (c .before .before .before .before .before .before .before .before .before .before .pre .0) (c .before .before .before .before .before .before .before .before .before .before .pre .1))
 
--- src/lib.rt:36:5
 add-result : tie.Need-add-result
 add-result c = omega (arith, c .before .before .before .before .before .before .before .before .before .before .pre .1, c .before .before .before .before .before .before .before .before .before .before .pre .2, c .before .before .before .before .before .before .write-front .ensures .end, front-at-most (c .before .before .before .before .before .before .before .before .before .before .args .v .now), c .before .before .write-text .ensures .end, text-at-most (c .before .before .before .before .before .before .before .before .before .before .args .v .now) (c .before .before .before .before .before .before .before .before .before .before .pre .0) (c .before .before .before .before .before .before .before .before .before .before .pre .1))
 
--- src/lib.rt:29:1
 same-length : tie.Need-same-length
 same-length c = wrote-same (line-written _ (c .before .before .before .before .before .before .write-front .ensures) (c .before .before .write-text .ensures))
 
--- src/lib.rt:29:1
 returns : tie.Need-returns
 returns c = line-written _ (c .before .before .before .before .before .before .write-front .ensures) (c .before .before .write-text .ensures)
 

@@ -7,11 +7,9 @@ use Rattle.lines.proofs.bytes.Reads as reads
 use Rattle.lines.proofs.bytes.Lts as lts
 use Rattle.lines.proofs.written.Reads as written-reads
 
--- src/lib.rt:41:5
 written-requires : tie.Need-written-requires
 written-requires c κs = search needs
 
--- src/lib.rt:38:1
 returns : tie.Need-returns
 returns c = counts _ _ (c .written .ensures)
 

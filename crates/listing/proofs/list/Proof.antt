@@ -22,113 +22,86 @@ Inv-loop held₀ out₀ left₀ held out left =
 abbrev μ-loop : tie.MeasureT-loop
 μ-loop held₀ out₀ left₀ held out left = left
 
--- src/main.rt:20:5
 loop-holds : tie.Need-loop-holds Inv-loop μ-loop
 loop-holds c = (refl, refl, c .before .before .pre .0, c .before .before .pre .1)
 
--- src/main.rt:21:13
 read-record-requires : tie.Need-read-record-requires Inv-loop μ-loop
 read-record-requires c κs = search needs
 
--- src/main.rt:23:13
 same-length : tie.Need-same-length Inv-loop μ-loop
 same-length c = search needs
 
--- src/main.rt:23:13
 same-length-2 : tie.Need-same-length-2 Inv-loop μ-loop
 same-length-2 c = search needs
 
--- src/main.rt:23:13
 returns : tie.Need-returns Inv-loop μ-loop
 returns c = search needs
 
--- src/main.rt:25:32
 slice-reshare-prefix-line : tie.Need-slice-reshare-prefix-line Inv-loop μ-loop
 slice-reshare-prefix-line c = search needs
 
--- src/main.rt:25:32
 slice-aggregate-line : tie.Need-slice-aggregate-line Inv-loop μ-loop
 slice-aggregate-line c = search needs
 
--- src/main.rt:25:13
 line-requires : tie.Need-line-requires Inv-loop μ-loop
 line-requires c κs = search needs
 
--- src/main.rt:26:26
 enum-known-given : tie.Need-enum-known-given Inv-loop μ-loop
 enum-known-given c = search needs
 
--- src/main.rt:27:13
 enum-told : tie.Need-enum-told Inv-loop μ-loop
 enum-told c = search needs
 
--- src/main.rt:27:13
 answer-requires : tie.Need-answer-requires Inv-loop μ-loop
 answer-requires c κs = search needs
 
--- src/main.rt:28:13
 byte-requires : tie.Need-byte-requires Inv-loop μ-loop
 byte-requires c κs = search needs
 
--- src/main.rt:29:13
 same-length-3 : tie.Need-same-length-3 Inv-loop μ-loop
 same-length-3 c = search needs
 
--- src/main.rt:29:13
 same-length-4 : tie.Need-same-length-4 Inv-loop μ-loop
 same-length-4 c = search needs
 
--- src/main.rt:29:13
 returns-2 : tie.Need-returns-2 Inv-loop μ-loop
 returns-2 c = search needs
 
--- src/main.rt:31:30
 slice-reshare-prefix-write-all : tie.Need-slice-reshare-prefix-write-all Inv-loop μ-loop
 unfolding answers.reads answers.numberOf
 slice-reshare-prefix-write-all c = (line-counts _ _ (c .before .before .before .before .before .line .last .1 .0) (c .before .before .before .before .before .before .before .before .before .before .before .before .before .before .loop .out) (ap answers.reads (sym (c .before .given .given .1)) ∙ c .before .before .before .before .before .line .ensures .0) (c .before .before .before .before .before .line .kept .1 .0)) .0
 
--- src/main.rt:31:30
 slice-aggregate-write-all : tie.Need-slice-aggregate-write-all Inv-loop μ-loop
 unfolding answers.reads answers.numberOf
 slice-aggregate-write-all c = (line-counts _ _ (c .before .before .before .before .before .before .line .last .1 .0) (c .before .before .before .before .before .before .before .before .before .before .before .before .before .before .before .loop .out) (ap answers.reads (sym (c .before .before .given .given .1)) ∙ c .before .before .before .before .before .before .line .ensures .0) (c .before .before .before .before .before .before .line .kept .1 .0)) .1
 
--- src/main.rt:31:13
 write-all-requires : tie.Need-write-all-requires Inv-loop μ-loop
 write-all-requires c κs = search needs
 
--- src/main.rt:32:13
 same-length-5 : tie.Need-same-length-5 Inv-loop μ-loop
 same-length-5 c = search needs
 
--- src/main.rt:32:13
 same-length-6 : tie.Need-same-length-6 Inv-loop μ-loop
 same-length-6 c = search needs
 
--- src/main.rt:32:13
 returns-3 : tie.Need-returns-3 Inv-loop μ-loop
 returns-3 c = search needs
 
--- src/main.rt:34:9
 sub-left : tie.Need-sub-left Inv-loop μ-loop
 sub-left c = search needs
 
--- src/main.rt:20:5
 loop-less : tie.Need-loop-less Inv-loop μ-loop
 loop-less c = search needs
 
--- src/main.rt:20:5
 loop-again : tie.Need-loop-again Inv-loop μ-loop
 loop-again c = search needs
 
--- src/main.rt:16:1
 same-length-7 : tie.Need-same-length-7 Inv-loop μ-loop
 same-length-7 c = search needs
 
--- src/main.rt:16:1
 same-length-8 : tie.Need-same-length-8 Inv-loop μ-loop
 same-length-8 c = search needs
 
--- src/main.rt:16:1
 returns-4 : tie.Need-returns-4 Inv-loop μ-loop
 returns-4 c = search needs
 

@@ -12,75 +12,57 @@ use Rattle.io.proofs.read_full.Reads as read-full-reads
 use Rattle.record.proofs.leaf_count.Reads as leaf-count-reads
 use Rattle.record.proofs.record_length.Reads as record-length-reads
 
--- src/main.rt:45:32
 slice-relend-prefix-read-full : tie.Need-slice-relend-prefix-read-full
 slice-relend-prefix-read-full c = search needs
 
--- src/main.rt:45:32
 slice-aggregate-read-full : tie.Need-slice-aggregate-read-full
 slice-aggregate-read-full c = first-two (c .before .before .args .held .now) (c .before .before .pre)
 
--- src/main.rt:45:9
 read-full-requires : tie.Need-read-full-requires
 read-full-requires c κs = search needs
 
--- src/main.rt:47:9
 same-length : tie.Need-same-length
 same-length c = search needs
 
--- src/main.rt:47:9
 returns : tie.Need-returns
 returns c = begun _ (c .before .before .before .read-full .last .1 .0) (c .before .before .before .before .before .before .args .held .now) (c .before .before .before .read-full .ensures .0)
 
--- src/main.rt:49:9
 leaf-count-requires : tie.Need-leaf-count-requires
 leaf-count-requires c κs = search needs
 
--- src/main.rt:51:9
 same-length-2 : tie.Need-same-length-2
 same-length-2 c = search needs
 
--- src/main.rt:51:9
 returns-2 : tie.Need-returns-2
 returns-2 c = two-held (c .before .before .before .before .before .before .read-full .last .1 .0) (c .before .before .before .before .before .before .before .before .before .args .held .now) (c .before .before .before .before .before .before .before .before .before .pre) (c .before .before .before .before .before .before .read-full .kept .1 .0)
 
--- src/main.rt:54:9
 same-length-3 : tie.Need-same-length-3
 same-length-3 c = search needs
 
--- src/main.rt:54:9
 returns-3 : tie.Need-returns-3
 returns-3 c = two-held (c .before .before .before .before .before .before .before .read-full .last .1 .0) (c .before .before .before .before .before .before .before .before .before .before .args .held .now) (c .before .before .before .before .before .before .before .before .before .before .pre) (c .before .before .before .before .before .before .before .read-full .kept .1 .0)
 
--- src/main.rt:56:9
 record-length-requires : tie.Need-record-length-requires
 record-length-requires c κs = search needs
 
--- src/main.rt:57:26
 sub-read-full : tie.Need-sub-read-full
 sub-read-full c = (wanted-within _ _ (c .record-length .ensures) (c .before .if3 .left)) .0
 
--- src/main.rt:57:26
 part-read-full-start : tie.Need-part-read-full-start
 part-read-full-start c = (wanted-within _ _ (c .record-length .ensures) (c .before .if3 .left)) .0
 
--- src/main.rt:57:26
 part-read-full-end : tie.Need-part-read-full-end
 part-read-full-end c = omega (arith, (wanted-within _ _ (c .record-length .ensures) (c .before .if3 .left)) .1, c .before .before .before .before .before .before .before .before .before .before .before .pre, held-same (c .before .before .before .before .before .before .before .before .read-full .last .1 .0) (c .before .before .before .before .before .before .before .before .before .before .before .args .held .now) (c .before .before .before .before .before .before .before .before .read-full .kept .1 .0))
 
--- src/main.rt:57:9
 read-full-requires-2 : tie.Need-read-full-requires-2
 read-full-requires-2 c κs = search needs
 
--- src/main.rt:57:5
 add-result : tie.Need-add-result
 add-result c = search needs
 
--- src/main.rt:41:1
 same-length-4 : tie.Need-same-length-4
 same-length-4 c = search needs
 
--- src/main.rt:41:1
 returns-4 : tie.Need-returns-4
 returns-4 c = whole-held _ (c .before .before .before .before .record-length .result - 2) (c .before .before .read-full2 .last .1 .0) ((c .before .before .before .before .before .before .before .before .before .before .before .before .read-full .last .1 .0) ++ drop 2 (c .before .before .before .before .before .before .before .before .before .before .before .before .before .before .before .args .held .now))
     (two-held (c .before .before .before .before .before .before .before .before .before .before .before .before .read-full .last .1 .0) (c .before .before .before .before .before .before .before .before .before .before .before .before .before .before .before .args .held .now) (c .before .before .before .before .before .before .before .before .before .before .before .before .before .before .before .pre) (c .before .before .before .before .before .before .before .before .before .before .before .before .read-full .kept .1 .0) .0) (c .before .before .read-full2 .ensures .0)

@@ -46,7 +46,6 @@ pair-at t = and 3 pair-kinds.ps (is 3 pair-kinds.ps μ-pair t) pair.Pre
 abbrev pair-below : ℕ → In 3 pair-kinds.ps
 pair-below t = and 3 pair-kinds.ps (falls 3 pair-kinds.ps _<_ μ-pair t) pair.Pre
 
--- src/lib.rt:177:8
 node-sign-requires : (t : ℕ) → node-lts.Need-sign-requires (
   sign-reads.Asked,
   sign-reads.Learnt,
@@ -57,7 +56,6 @@ node-sign-requires : (t : ℕ) → node-lts.Need-sign-requires (
 ) (node-at t) node.Post
 node-sign-requires t c κs = search needs
 
--- src/lib.rt:178:9
 node-broken-requires : (t : ℕ) → node-lts.Need-broken-requires (
   sign-reads.Asked,
   sign-reads.Learnt,
@@ -68,7 +66,6 @@ node-broken-requires : (t : ℕ) → node-lts.Need-broken-requires (
 ) (node-at t) node.Post
 node-broken-requires t c κs = search needs
 
--- src/lib.rt:178:9
 node-returns : (t : ℕ) → node-lts.Need-returns (
   sign-reads.Asked,
   sign-reads.Learnt,
@@ -79,7 +76,6 @@ node-returns : (t : ℕ) → node-lts.Need-returns (
 ) (node-at t) node.Post
 node-returns t c = λ s y. inr (_, c .broken .ensures, broke-sign y (c .before .before .before .args .depth) (λ q. c .before .if1 .taken (c .before .before .sign .ensures ∙ q)) (c .before .before .before .pre .1 .1))
 
--- src/lib.rt:181:9
 node-broken-requires-2 : (t : ℕ) → node-lts.Need-broken-requires-2 (
   sign-reads.Asked,
   sign-reads.Learnt,
@@ -90,7 +86,6 @@ node-broken-requires-2 : (t : ℕ) → node-lts.Need-broken-requires-2 (
 ) (node-at t) node.Post
 node-broken-requires-2 t c κs = search needs
 
--- src/lib.rt:181:9
 node-returns-2 : (t : ℕ) → node-lts.Need-returns-2 (
   sign-reads.Asked,
   sign-reads.Learnt,
@@ -101,7 +96,6 @@ node-returns-2 : (t : ℕ) → node-lts.Need-returns-2 (
 ) (node-at t) node.Post
 node-returns-2 t c = λ s y. inr (_, c .broken2 .ensures, broke-deep y (c .before .before .before .before .args .depth) (sym (c .before .before .before .sign .ensures) ∙ c .before .before .if1 .left) (c .before .if2 .taken))
 
--- src/lib.rt:183:13
 node-add-pair : (t : ℕ) → node-lts.Need-add-pair (
   sign-reads.Asked,
   sign-reads.Learnt,
@@ -112,7 +106,6 @@ node-add-pair : (t : ℕ) → node-lts.Need-add-pair (
 ) (node-at t) node.Post
 node-add-pair t c = search needs
 
--- src/lib.rt:183:21
 node-sub-pair : (t : ℕ) → node-lts.Need-sub-pair (
   sign-reads.Asked,
   sign-reads.Learnt,
@@ -123,7 +116,6 @@ node-sub-pair : (t : ℕ) → node-lts.Need-sub-pair (
 ) (node-at t) node.Post
 node-sub-pair t c = search needs
 
--- src/lib.rt:183:5
 node-pair-requires : (t : ℕ) → node-lts.Need-pair-requires (
   sign-reads.Asked,
   sign-reads.Learnt,
@@ -135,7 +127,6 @@ node-pair-requires : (t : ℕ) → node-lts.Need-pair-requires (
 node-pair-requires t c κs = let y = c .before .before .before .before .before .pre .1 .0 .1 in
     (omega (arith, y .within, y .short), (_, ready-inside y (sym (c .before .before .before .before .sign .ensures) ∙ c .before .before .before .if1 .left)))
 
--- src/lib.rt:164:1
 node-returns-3 : (t : ℕ) → node-lts.Need-returns-3 (
   sign-reads.Asked,
   sign-reads.Learnt,
@@ -239,7 +230,6 @@ second-child t c s y =
     ⊎-elim (λ w. rw (w .3, w .4, w .5) (w .2 .ensures s _ z _))
     (λ w. rw (w .7, w .8, w .9) (took (w .6 .ensures) (leb-false _ _ (sym (w .4 .ensures) ∙ w .5 .left)) (w .3 .ensures s z))) (c .if4 .came)
 
--- src/lib.rt:199:22
 pair-sign-requires : (t : ℕ) → pair-lts.Need-sign-requires (
   sign-reads.Asked,
   sign-reads.Learnt,
@@ -260,7 +250,6 @@ pair-sign-requires : (t : ℕ) → pair-lts.Need-sign-requires (
 ) (pair-at t) pair.Post
 pair-sign-requires t c κs = search needs
 
--- src/lib.rt:199:16
 pair-digit-requires : (t : ℕ) → pair-lts.Need-digit-requires (
   sign-reads.Asked,
   sign-reads.Learnt,
@@ -281,7 +270,6 @@ pair-digit-requires : (t : ℕ) → pair-lts.Need-digit-requires (
 ) (pair-at t) pair.Post
 pair-digit-requires t c κs = search needs
 
--- src/lib.rt:200:9
 pair-leaf-requires : (t : ℕ) → pair-lts.Need-leaf-requires (
   sign-reads.Asked,
   sign-reads.Learnt,
@@ -302,7 +290,6 @@ pair-leaf-requires : (t : ℕ) → pair-lts.Need-leaf-requires (
 ) (pair-at t) pair.Post
 pair-leaf-requires t c κs = ((_, _, c .before .before .before .before .pre .1 .1), ap isDigit (sym (c .before .before .before .sign .ensures)) ∙ sym (c .before .before .digit .ensures) ∙ c .before .if1 .taken)
 
--- src/lib.rt:202:13
 pair-node-requires : (t : ℕ) → pair-lts.Need-node-requires (
   sign-reads.Asked,
   sign-reads.Learnt,
@@ -323,7 +310,6 @@ pair-node-requires : (t : ℕ) → pair-lts.Need-node-requires (
 ) (pair-at t) pair.Post
 pair-node-requires t c κs = (omega arith, (c .before .before .before .before .before .pre .1, ap isDigit (sym (c .before .before .before .before .sign .ensures)) ∙ sym (c .before .before .before .digit .ensures) ∙ c .before .before .if1 .left))
 
--- src/lib.rt:203:12
 pair-is-broken-requires : (t : ℕ) → pair-lts.Need-is-broken-requires (
   sign-reads.Asked,
   sign-reads.Learnt,
@@ -344,7 +330,6 @@ pair-is-broken-requires : (t : ℕ) → pair-lts.Need-is-broken-requires (
 ) (pair-at t) pair.Post
 pair-is-broken-requires t c κs = search needs
 
--- src/lib.rt:204:13
 pair-returns : (t : ℕ) → pair-lts.Need-returns (
   sign-reads.Asked,
   sign-reads.Learnt,
@@ -366,7 +351,6 @@ pair-returns : (t : ℕ) → pair-lts.Need-returns (
 pair-returns t c = λ s y. let b = broke (leb-true _ _ (sym (c .before .is-broken .ensures) ∙ c .if2 .taken)) (c .before .before .node .ensures s y) in
     inr (b .0, b .1, broke-first y (c .before .before .before .before .before .before .before .before .args .depth) (b .2))
 
--- src/lib.rt:206:9
 pair-unpacked-requires : (t : ℕ) → pair-lts.Need-unpacked-requires (
   sign-reads.Asked,
   sign-reads.Learnt,
@@ -387,7 +371,6 @@ pair-unpacked-requires : (t : ℕ) → pair-lts.Need-unpacked-requires (
 ) (pair-at t) pair.Post
 pair-unpacked-requires t c κs = search needs
 
--- src/lib.rt:209:8
 pair-sign-requires-2 : (t : ℕ) → pair-lts.Need-sign-requires-2 (
   sign-reads.Asked,
   sign-reads.Learnt,
@@ -408,7 +391,6 @@ pair-sign-requires-2 : (t : ℕ) → pair-lts.Need-sign-requires-2 (
 ) (pair-at t) pair.Post
 pair-sign-requires-2 t c κs = let r = first-child t c (c .before .before .before .pre .1 .0) (c .before .before .before .pre .1 .1) .ready in omega (arith, r .within, r .short)
 
--- src/lib.rt:210:9
 pair-broken-requires : (t : ℕ) → pair-lts.Need-broken-requires (
   sign-reads.Asked,
   sign-reads.Learnt,
@@ -429,7 +411,6 @@ pair-broken-requires : (t : ℕ) → pair-lts.Need-broken-requires (
 ) (pair-at t) pair.Post
 pair-broken-requires t c κs = let r = first-child t (c .before .before) (c .before .before .before .before .before .pre .1 .0) (c .before .before .before .before .before .pre .1 .1) .ready in omega (arith, r .within, r .short)
 
--- src/lib.rt:210:9
 pair-returns-2 : (t : ℕ) → pair-lts.Need-returns-2 (
   sign-reads.Asked,
   sign-reads.Learnt,
@@ -450,7 +431,6 @@ pair-returns-2 : (t : ℕ) → pair-lts.Need-returns-2 (
 ) (pair-at t) pair.Post
 pair-returns-2 t c = λ s y. inr (_, c .broken .ensures, broke-comma y (c .before .before .before .before .before .before .args .depth) (first-child t (c .before .before .before) s y) (λ q. c .before .if3 .taken (c .before .before .sign2 .ensures ∙ q)))
 
--- src/lib.rt:212:30
 pair-add-sign : (t : ℕ) → pair-lts.Need-add-sign (
   sign-reads.Asked,
   sign-reads.Learnt,
@@ -471,7 +451,6 @@ pair-add-sign : (t : ℕ) → pair-lts.Need-add-sign (
 ) (pair-at t) pair.Post
 pair-add-sign t c = let r = first-child t (c .before .before) (c .before .before .before .before .before .pre .1 .0) (c .before .before .before .before .before .pre .1 .1) .ready in omega (arith, r .within, r .short)
 
--- src/lib.rt:212:22
 pair-sign-requires-3 : (t : ℕ) → pair-lts.Need-sign-requires-3 (
   sign-reads.Asked,
   sign-reads.Learnt,
@@ -492,7 +471,6 @@ pair-sign-requires-3 : (t : ℕ) → pair-lts.Need-sign-requires-3 (
 ) (pair-at t) pair.Post
 pair-sign-requires-3 t c κs = let r = second t c (c .before .before .before .before .before .pre .1 .0) (c .before .before .before .before .before .pre .1 .1) in omega (arith, r .within, r .short)
 
--- src/lib.rt:212:16
 pair-digit-requires-2 : (t : ℕ) → pair-lts.Need-digit-requires-2 (
   sign-reads.Asked,
   sign-reads.Learnt,
@@ -513,7 +491,6 @@ pair-digit-requires-2 : (t : ℕ) → pair-lts.Need-digit-requires-2 (
 ) (pair-at t) pair.Post
 pair-digit-requires-2 t c κs = search needs
 
--- src/lib.rt:213:17
 pair-add-leaf : (t : ℕ) → pair-lts.Need-add-leaf (
   sign-reads.Asked,
   sign-reads.Learnt,
@@ -534,7 +511,6 @@ pair-add-leaf : (t : ℕ) → pair-lts.Need-add-leaf (
 ) (pair-at t) pair.Post
 pair-add-leaf t c = let r = first-child t (c .before .before .before .before .before) (c .before .before .before .before .before .before .before .before .pre .1 .0) (c .before .before .before .before .before .before .before .before .pre .1 .1) .ready in omega (arith, r .within, r .short)
 
--- src/lib.rt:213:9
 pair-leaf-requires-2 : (t : ℕ) → pair-lts.Need-leaf-requires-2 (
   sign-reads.Asked,
   sign-reads.Learnt,
@@ -555,7 +531,6 @@ pair-leaf-requires-2 : (t : ℕ) → pair-lts.Need-leaf-requires-2 (
 ) (pair-at t) pair.Post
 pair-leaf-requires-2 t c κs = ((_, _, second t (c .before .before .before .before) (c .before .before .before .before .before .before .before .before .before .pre .1 .0) (c .before .before .before .before .before .before .before .before .before .pre .1 .1)), ap isDigit (sym (c .before .before .before .sign3 .ensures)) ∙ sym (c .before .before .digit2 .ensures) ∙ c .before .if4 .taken)
 
--- src/lib.rt:215:25
 pair-add-node : (t : ℕ) → pair-lts.Need-add-node (
   sign-reads.Asked,
   sign-reads.Learnt,
@@ -576,7 +551,6 @@ pair-add-node : (t : ℕ) → pair-lts.Need-add-node (
 ) (pair-at t) pair.Post
 pair-add-node t c = let r = first-child t (c .before .before .before .before .before) (c .before .before .before .before .before .before .before .before .pre .1 .0) (c .before .before .before .before .before .before .before .before .pre .1 .1) .ready in omega (arith, r .within, r .short)
 
--- src/lib.rt:215:13
 pair-node-requires-2 : (t : ℕ) → pair-lts.Need-node-requires-2 (
   sign-reads.Asked,
   sign-reads.Learnt,
@@ -598,7 +572,6 @@ pair-node-requires-2 : (t : ℕ) → pair-lts.Need-node-requires-2 (
 pair-node-requires-2 t c κs = let T = first-child t (c .before .before .before .before .before .before .before) (c .before .before .before .before .before .before .before .before .before .before .pre .1 .0) (c .before .before .before .before .before .before .before .before .before .before .pre .1 .1) in
     (omega (arith, T .ahead, T .ready .within, T .ready .short), ((_, second t (c .before .before .before .before .before) (c .before .before .before .before .before .before .before .before .before .before .pre .1 .0) (c .before .before .before .before .before .before .before .before .before .before .pre .1 .1)), ap isDigit (sym (c .before .before .before .before .sign3 .ensures)) ∙ sym (c .before .before .before .digit2 .ensures) ∙ c .before .before .if4 .left))
 
--- src/lib.rt:216:12
 pair-is-broken-requires-2 : (t : ℕ) → pair-lts.Need-is-broken-requires-2 (
   sign-reads.Asked,
   sign-reads.Learnt,
@@ -619,7 +592,6 @@ pair-is-broken-requires-2 : (t : ℕ) → pair-lts.Need-is-broken-requires-2 (
 ) (pair-at t) pair.Post
 pair-is-broken-requires-2 t c κs = search needs
 
--- src/lib.rt:217:13
 pair-returns-3 : (t : ℕ) → pair-lts.Need-returns-3 (
   sign-reads.Asked,
   sign-reads.Learnt,
@@ -641,7 +613,6 @@ pair-returns-3 : (t : ℕ) → pair-lts.Need-returns-3 (
 pair-returns-3 t c = λ s y. let b = broke (leb-true _ _ (sym (c .before .is-broken2 .ensures) ∙ c .if5 .taken)) (c .before .before .node2 .ensures s (second t (c .before .before .before .before .before .before .before .before) s y)) in
     inr (b .0, b .1, broke-second y (c .before .before .before .before .before .before .before .before .before .before .before .before .before .args .depth) (first-child t (c .before .before .before .before .before .before .before .before .before .before) s y) (comma t (c .before .before .before .before .before .before .before .before)) (b .2))
 
--- src/lib.rt:219:9
 pair-unpacked-requires-2 : (t : ℕ) → pair-lts.Need-unpacked-requires-2 (
   sign-reads.Asked,
   sign-reads.Learnt,
@@ -662,7 +633,6 @@ pair-unpacked-requires-2 : (t : ℕ) → pair-lts.Need-unpacked-requires-2 (
 ) (pair-at t) pair.Post
 pair-unpacked-requires-2 t c κs = search needs
 
--- src/lib.rt:221:5
 pair-close-requires : (t : ℕ) → pair-lts.Need-close-requires (
   sign-reads.Asked,
   sign-reads.Learnt,
@@ -684,7 +654,6 @@ pair-close-requires : (t : ℕ) → pair-lts.Need-close-requires (
 pair-close-requires t c κs = let y = c .before .before .before .before .before .before .before .before .before .pre .1 .1 in
     closing y (c .before .before .before .before .before .before .before .before .before .args .depth) (first-child t (c .before .before .before .before .before .before) (c .before .before .before .before .before .before .before .before .before .pre .1 .0) y) (comma t (c .before .before .before .before)) (second-child t (c .before) (c .before .before .before .before .before .before .before .before .before .pre .1 .0) y)
 
--- src/lib.rt:187:1
 pair-returns-4 : (t : ℕ) → pair-lts.Need-returns-4 (
   sign-reads.Asked,
   sign-reads.Learnt,

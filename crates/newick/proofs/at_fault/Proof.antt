@@ -6,15 +6,12 @@ use Rattle.newick.proofs.at_fault.Tie as tie
 use Rattle.newick.proofs.at_fault.Reads as reads
 use Rattle.newick.proofs.at_fault.Lts as lts
 
--- src/lib.rt:279:16
 shared-slice-read-result : tie.Need-shared-slice-read-result
 shared-slice-read-result c = search needs
 
--- src/lib.rt:279:9
 returns : tie.Need-returns
 returns c = faulty-below (c .before .before .args .used .now) (c .before .before .args .n) (c .before .before .args .x) (c .before .if1 .taken)
 
--- src/lib.rt:274:1
 returns-2 : tie.Need-returns-2
 returns-2 c = faulty-above (c .before .args .used .now) (c .before .args .n) (c .before .args .x) (c .if1 .left)
 

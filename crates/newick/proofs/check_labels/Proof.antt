@@ -16,59 +16,45 @@ Inv-loop labels n used₀ i₀ used i = Checked labels n used i × (length used 
 abbrev μ-loop : tie.MeasureT-loop
 μ-loop labels n used₀ i₀ used i = n - i
 
--- src/lib.rt:289:5
 loop-holds : tie.Need-loop-holds Inv-loop μ-loop
 loop-holds c = (checked-start (c .before .before .args .labels .now) (c .before .before .args .n) (c .before .before .args .used .now) (c .before .before .pre .0) (c .before .before .pre .1) (c .before .before .pre .2), refl)
 
--- src/lib.rt:290:17
 mul-l : tie.Need-mul-l Inv-loop μ-loop
 mul-l c = search needs
 
--- src/lib.rt:290:17
 shared-slice-read-l : tie.Need-shared-slice-read-l Inv-loop μ-loop
 shared-slice-read-l c = omega (arith, c .before .before .loop .inv .0 .there, c .before .loop-test .taken)
 
--- src/lib.rt:291:17
 cast-x : tie.Need-cast-x Inv-loop μ-loop
 cast-x c = search needs
 
--- src/lib.rt:292:12
 at-fault-requires : tie.Need-at-fault-requires Inv-loop μ-loop
 at-fault-requires c κs = c .before .before .before .loop .inv .0 .long
 
--- src/lib.rt:293:30
 cast-t15 : tie.Need-cast-t15 Inv-loop μ-loop
 cast-t15 c = omega (arith, c .before .before .before .shared-slice-known2 .given (c .before .before .before .before .before .loop .i))
 
--- src/lib.rt:293:13
 same-length : tie.Need-same-length Inv-loop μ-loop
 same-length c = c .before .before .before .before .before .loop .inv .1
 
--- src/lib.rt:293:13
 returns : tie.Need-returns Inv-loop μ-loop
 returns c = checked-fault (c .before .before .before .before .before .before .before .before .args .labels .now) (c .before .before .before .before .before .before .before .before .args .n) (c .before .before .before .before .before .loop .used) (c .before .before .before .before .before .loop .i) (c .before .before .before .before .before .loop .inv .0) (c .before .before .before .before .loop-test .taken) (sym (c .before .at-fault .ensures) ∙ c .if1 .taken)
 
--- src/lib.rt:295:9
 slice-write-used : tie.Need-slice-write-used Inv-loop μ-loop
 slice-write-used c = omega (arith, not-faulty (c .before .before .before .before .before .before .before .before .args .labels .now) (c .before .before .before .before .before .before .before .before .args .n) (c .before .before .before .before .before .loop .used) (c .before .before .before .before .before .loop .i) (c .before .before .before .before .before .loop .inv .0) (c .before .before .before .before .loop-test .taken) (sym (c .before .at-fault .ensures) ∙ c .if1 .left), c .before .before .before .before .before .loop .inv .0 .long)
 
--- src/lib.rt:296:9
 add-i : tie.Need-add-i Inv-loop μ-loop
 add-i c = search needs
 
--- src/lib.rt:289:5
 loop-less : tie.Need-loop-less Inv-loop μ-loop
 loop-less c = omega (arith, c .before .before .before .before .loop-test .taken)
 
--- src/lib.rt:289:5
 loop-again : tie.Need-loop-again Inv-loop μ-loop
 loop-again c = (checked-next (c .before .before .before .before .before .before .before .before .args .labels .now) (c .before .before .before .before .before .before .before .before .args .n) (c .before .before .before .before .before .loop .used) (c .before .before .before .before .before .loop .i) (c .before .before .before .before .before .loop .inv .0) (c .before .before .before .before .loop-test .taken) (sym (c .before .at-fault .ensures) ∙ c .if1 .left), simp length-set (c .before .before .before .before .before .loop .inv .1))
 
--- src/lib.rt:284:1
 same-length-2 : tie.Need-same-length-2 Inv-loop μ-loop
 same-length-2 c = c .before .loop .inv .1
 
--- src/lib.rt:284:1
 returns-2 : tie.Need-returns-2 Inv-loop μ-loop
 returns-2 c = checked-end (c .before .before .before .before .args .labels .now) (c .before .before .before .before .args .n) (c .before .loop .used) (c .before .loop .i) (c .before .loop .inv .0) (c .loop-test .left)
 

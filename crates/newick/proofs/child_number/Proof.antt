@@ -6,27 +6,21 @@ use Rattle.newick.proofs.child_number.Tie as tie
 use Rattle.newick.proofs.child_number.Reads as reads
 use Rattle.newick.proofs.child_number.Lts as lts
 
--- src/lib.rt:316:16
 cast-result : tie.Need-cast-result
 cast-result c = search needs
 
--- src/lib.rt:316:9
 returns : tie.Need-returns
 returns c = number-leaf (c .before .args .n) (c .before .args .c) (c .if1 .taken)
 
--- src/lib.rt:318:6
 cast-result-2 : tie.Need-cast-result-2
 cast-result-2 c = search needs
 
--- src/lib.rt:318:6
 add-result : tie.Need-add-result
 add-result c = search needs
 
--- src/lib.rt:318:5
 cast-result-3 : tie.Need-cast-result-3
 cast-result-3 c = search needs
 
--- src/lib.rt:311:1
 returns-2 : tie.Need-returns-2
 returns-2 c = number-pair (c .before .args .n) (c .before .args .c) (c .if1 .left)
 

@@ -19,67 +19,51 @@ Inv-loop pairs n left₀ right₀ k₀ left right k =
 abbrev μ-loop : tie.MeasureT-loop
 μ-loop pairs n left₀ right₀ k₀ left right k = n - k
 
--- src/lib.rt:328:5
 loop-holds : tie.Need-loop-holds Inv-loop μ-loop
 loop-holds c = (numbered-start (c .before .before .before .args .pairs .now) (c .before .before .before .args .n) (c .before .before .before .args .left .now) (firstNumber (c .before .before .before .args .n)) (c .before .before .before .pre .0) (c .before .before .before .pre .1) (c .before .before .before .pre .2), numbered-start (c .before .before .before .args .pairs .now) (c .before .before .before .args .n) (c .before .before .before .args .right .now) (secondNumber (c .before .before .before .args .n)) (c .before .before .before .pre .0) (c .before .before .before .pre .1) (c .before .before .before .pre .3))
 
--- src/lib.rt:328:11
 add-loop : tie.Need-add-loop Inv-loop μ-loop
 add-loop c = omega (arith, c .loop .inv .0 .few, c .loop .inv .0 .within)
 
--- src/lib.rt:329:17
 mul-p : tie.Need-mul-p Inv-loop μ-loop
 mul-p c = search needs
 
--- src/lib.rt:329:17
 shared-slice-read-p : tie.Need-shared-slice-read-p Inv-loop μ-loop
 shared-slice-read-p c = omega (arith, c .before .loop-test .taken, c .before .before .loop .inv .0 .pairs-there)
 
--- src/lib.rt:330:19
 child-number-requires : tie.Need-child-number-requires Inv-loop μ-loop
 child-number-requires c κs = omega (arith, c .shared-slice-known2 .given (c .before .before .loop .k), c .before .before .loop .inv .0 .few)
 
--- src/lib.rt:330:9
 mul-left : tie.Need-mul-left Inv-loop μ-loop
 mul-left c = search needs
 
--- src/lib.rt:330:9
 slice-write-left : tie.Need-slice-write-left Inv-loop μ-loop
 slice-write-left c = numbered-room (c .before .before .before .loop .inv .0) (c .before .before .loop-test .taken)
 
--- src/lib.rt:331:20
 child-number-requires-2 : tie.Need-child-number-requires-2 Inv-loop μ-loop
 child-number-requires-2 c κs = omega (arith, c .before .shared-slice-known2 .given (c .before .before .before .loop .k), c .before .before .before .loop .inv .0 .few)
 
--- src/lib.rt:331:9
 mul-right : tie.Need-mul-right Inv-loop μ-loop
 mul-right c = search needs
 
--- src/lib.rt:331:9
 slice-write-right : tie.Need-slice-write-right Inv-loop μ-loop
 slice-write-right c = numbered-room (c .before .before .before .before .loop .inv .1) (c .before .before .before .loop-test .taken)
 
--- src/lib.rt:332:9
 add-k : tie.Need-add-k Inv-loop μ-loop
 add-k c = omega (arith, c .before .before .before .before .loop .inv .0 .few, c .before .before .before .loop-test .taken)
 
--- src/lib.rt:328:5
 loop-less : tie.Need-loop-less Inv-loop μ-loop
 loop-less c = omega (arith, c .before .before .before .loop-test .taken)
 
--- src/lib.rt:328:5
 loop-again : tie.Need-loop-again Inv-loop μ-loop
 loop-again c = (numbered-next (c .before .before .before .before .loop .inv .0) _ (c .before .before .before .loop-test .taken) (c .before .child-number .ensures), numbered-next (c .before .before .before .before .loop .inv .1) _ (c .before .before .before .loop-test .taken) (c .child-number2 .ensures))
 
--- src/lib.rt:322:1
 same-length : tie.Need-same-length Inv-loop μ-loop
 same-length c = numbered-length (c .before .loop .inv .0)
 
--- src/lib.rt:322:1
 same-length-2 : tie.Need-same-length-2 Inv-loop μ-loop
 same-length-2 c = numbered-length (c .before .loop .inv .1)
 
--- src/lib.rt:322:1
 returns : tie.Need-returns Inv-loop μ-loop
 returns c = (numbered-end (c .before .loop .inv .0) (c .loop-test .left), numbered-end (c .before .loop .inv .1) (c .loop-test .left))
 

@@ -11,44 +11,34 @@ use Rattle.newick.proofs.keep.Reads as keep-reads
 use Rattle.newick.proofs.packed.Reads as packed-reads
 use Rattle.newick.proofs.sign.Reads as sign-reads
 
--- src/lib.rt:155:8
 sign-requires : tie.Need-sign-requires
 sign-requires c κs = search needs
 
--- src/lib.rt:156:9
 broken-requires : tie.Need-broken-requires
 broken-requires c κs = search needs
 
--- src/lib.rt:156:9
 returns : tie.Need-returns
 unfolding closed
 returns c = rw (c .broken .ensures, ← c .before .before .sign .ensures, ne-eqb _ _ (c .before .if1 .taken))
 
--- src/lib.rt:159:20
 mul-keep : tie.Need-mul-keep
 mul-keep c = search needs
 
--- src/lib.rt:159:20
 add-keep : tie.Need-add-keep
 add-keep c = search needs
 
--- src/lib.rt:159:5
 keep-requires : tie.Need-keep-requires
 keep-requires c κs = search needs
 
--- src/lib.rt:160:12
 add-packed : tie.Need-add-packed
 add-packed c = search needs
 
--- src/lib.rt:160:29
 add-packed-2 : tie.Need-add-packed-2
 add-packed-2 c = search needs
 
--- src/lib.rt:160:5
 packed-requires : tie.Need-packed-requires
 packed-requires c κs = search needs
 
--- src/lib.rt:150:1
 returns-2 : tie.Need-returns-2
 unfolding closed
 returns-2 c = rw (c .packed .ensures, ← c .before .before .before .before .before .before .sign .ensures, eq-eqb _ _ (c .before .before .before .before .before .if1 .left), c .before .keep .ensures)

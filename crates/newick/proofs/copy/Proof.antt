@@ -14,31 +14,24 @@ Inv-loop s signs₀ i₀ signs i = Copied s signs i
 abbrev μ-loop : tie.MeasureT-loop
 μ-loop s signs₀ i₀ signs i = length s - i
 
--- src/lib.rt:245:5
 loop-holds : tie.Need-loop-holds Inv-loop μ-loop
 loop-holds c = copied-start (c .pre .0) (c .pre .1) (c .pre .2)
 
--- src/lib.rt:246:20
 shared-slice-read-signs : tie.Need-shared-slice-read-signs Inv-loop μ-loop
 shared-slice-read-signs c = search needs
 
--- src/lib.rt:246:9
 element-write-signs : tie.Need-element-write-signs Inv-loop μ-loop
 element-write-signs c = omega (arith, c .before .before .loop .inv .short, c .before .loop-test .taken)
 
--- src/lib.rt:247:9
 add-i : tie.Need-add-i Inv-loop μ-loop
 add-i c = search needs
 
--- src/lib.rt:245:5
 loop-less : tie.Need-loop-less Inv-loop μ-loop
 loop-less c = search needs
 
--- src/lib.rt:245:5
 loop-again : tie.Need-loop-again Inv-loop μ-loop
 loop-again c = copied-next _ _ _ (c .before .before .loop .inv) (c .before .loop-test .taken)
 
--- src/lib.rt:240:1
 returns : tie.Need-returns Inv-loop μ-loop
 returns c = copied-end _ _ _ (c .before .loop .inv) (c .loop-test .left)
 

@@ -6,11 +6,9 @@ use Rattle.newick.proofs.digit.Tie as tie
 use Rattle.newick.proofs.digit.Reads as reads
 use Rattle.newick.proofs.digit.Lts as lts
 
--- src/lib.rt:39:1
 returns : tie.Need-returns
 returns c = digit-from (c .before .args .c) (c .if1 .taken)
 
--- src/lib.rt:39:1
 returns-2 : tie.Need-returns-2
 returns-2 c = digit-below (c .before .args .c) (c .if1 .left)
 

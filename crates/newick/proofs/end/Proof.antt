@@ -8,27 +8,21 @@ use Rattle.newick.proofs.end.Reads as reads
 use Rattle.newick.proofs.end.Lts as lts
 use Rattle.newick.proofs.sign.Reads as sign-reads
 
--- src/lib.rt:230:8
 sign-requires : tie.Need-sign-requires
 sign-requires c κs = search needs
 
--- src/lib.rt:231:9
 returns : tie.Need-returns
 returns c = λ t same e w. no-end (c .before .before .args .s .now) t same (c .before .before .args .a) (omega arith) (λ q. c .if1 .taken (c .before .sign .ensures ∙ q))
 
--- src/lib.rt:233:8
 add-if2 : tie.Need-add-if2
 add-if2 c = search needs
 
--- src/lib.rt:234:29
 add-t8 : tie.Need-add-t8
 add-t8 c = search needs
 
--- src/lib.rt:234:9
 returns-2 : tie.Need-returns-2
 returns-2 c = λ t same e w. not-alone (c .before .before .before .args .s .now) t same (c .before .before .before .args .a) (sym (c .before .before .sign .ensures) ∙ c .before .if1 .left) (omega (arith, c .if2 .taken))
 
--- src/lib.rt:225:1
 returns-3 : tie.Need-returns-3
 returns-3 c = λ t same e w. ended (c .before .before .before .args .s .now) t same (c .before .before .before .args .a) (sym (c .before .before .sign .ensures) ∙ c .before .if1 .left) (omega (arith, c .if2 .left))
 

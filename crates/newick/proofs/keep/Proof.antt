@@ -7,19 +7,15 @@ use Rattle.newick.proofs.keep.Tie as tie
 use Rattle.newick.proofs.keep.Reads as reads
 use Rattle.newick.proofs.keep.Lts as lts
 
--- src/lib.rt:93:9
 mul-list : tie.Need-mul-list
 mul-list c = search needs
 
--- src/lib.rt:93:9
 element-write-list : tie.Need-element-write-list
 element-write-list c = search needs
 
--- src/lib.rt:88:1
 returns : tie.Need-returns
 returns c = search needs
 
--- src/lib.rt:88:1
 returns-2 : tie.Need-returns-2
 returns-2 c = sym (set-out (c .before .args .list .now) (c .before .args .k) (c .before .args .x) (omega (arith, c .before .pre, c .if1 .left)))
 

@@ -28,95 +28,72 @@ three c t same = digits-more (c .before .before .before .before .before .before 
 four : (c : tie.After-with-digit4) (t : List ℕ) → Same (c .before .before .before .before .before .before .before .before .before .before .before .before .before .before .before .args .s .now) t → Digits t (c .before .before .before .before .before .before .before .before .before .before .before .before .before .before .before .args .at) 4 0 (c .with-digit4 .result)
 four c t same = digits-more (c .before .before .before .before .before .before .before .before .before .before .before .before .before .before .before .args .s .now) t same _ _ (three (c .before .before .before .before) t same) (c .before .before .before .sign4 .ensures) (sym (c .before .before .digit3 .ensures) ∙ not-false _ (c .before .if4 .left)) (c .with-digit4 .ensures .0)
 
--- src/lib.rt:57:9
 sign-requires : tie.Need-sign-requires
 sign-requires c κs = search needs
 
--- src/lib.rt:59:9
 returns : tie.Need-returns
 returns c = λ t same. whole-zero (c .before .before .args .s .now) t same _ _ (c .before .sign .ensures) (c .if1 .taken)
 
--- src/lib.rt:61:9
 with-digit-requires : tie.Need-with-digit-requires
 with-digit-requires c κs = (omega arith, ap isDigit (c .before .sign .ensures) ∙ c .before .before .pre .1)
 
--- src/lib.rt:62:21
 add-sign : tie.Need-add-sign
 add-sign c = search needs
 
--- src/lib.rt:62:9
 sign-requires-2 : tie.Need-sign-requires-2
 sign-requires-2 c κs = search needs
 
--- src/lib.rt:63:9
 digit-requires : tie.Need-digit-requires
 digit-requires c κs = search needs
 
--- src/lib.rt:64:16
 add-result : tie.Need-add-result
 add-result c = search needs
 
--- src/lib.rt:64:9
 returns-2 : tie.Need-returns-2
 returns-2 c = λ t same. digits-stop (c .before .before .before .before .before .before .args .s .now) t same _ (one (c .before .before .before) t same) (omega arith) (omega (arith, c .before .before .before .with-digit .ensures .1)) (c .before .before .sign2 .ensures) (sym (c .before .digit .ensures) ∙ not-true _ (c .if2 .taken))
 
--- src/lib.rt:66:9
 with-digit-requires-2 : tie.Need-with-digit-requires-2
 with-digit-requires-2 c κs = (omega (arith, c .before .before .before .with-digit .ensures .1), sym (c .before .digit .ensures) ∙ not-false _ (c .if2 .left))
 
--- src/lib.rt:67:21
 add-sign-2 : tie.Need-add-sign-2
 add-sign-2 c = search needs
 
--- src/lib.rt:67:9
 sign-requires-3 : tie.Need-sign-requires-3
 sign-requires-3 c κs = search needs
 
--- src/lib.rt:68:9
 digit-requires-2 : tie.Need-digit-requires-2
 digit-requires-2 c κs = search needs
 
--- src/lib.rt:69:16
 add-result-2 : tie.Need-add-result-2
 add-result-2 c = search needs
 
--- src/lib.rt:69:9
 returns-3 : tie.Need-returns-3
 returns-3 c = λ t same. digits-stop (c .before .before .before .before .before .before .before .before .before .before .args .s .now) t same _ (two (c .before .before .before) t same) (omega arith) (omega (arith, c .before .before .before .with-digit2 .ensures .1, c .before .before .before .before .before .before .before .with-digit .ensures .1)) (c .before .before .sign3 .ensures) (sym (c .before .digit2 .ensures) ∙ not-true _ (c .if3 .taken))
 
--- src/lib.rt:71:9
 with-digit-requires-3 : tie.Need-with-digit-requires-3
 with-digit-requires-3 c κs = (omega (arith, c .before .before .before .with-digit2 .ensures .1, c .before .before .before .before .before .before .before .with-digit .ensures .1), sym (c .before .digit2 .ensures) ∙ not-false _ (c .if3 .left))
 
--- src/lib.rt:72:21
 add-sign-3 : tie.Need-add-sign-3
 add-sign-3 c = search needs
 
--- src/lib.rt:72:9
 sign-requires-4 : tie.Need-sign-requires-4
 sign-requires-4 c κs = search needs
 
--- src/lib.rt:73:9
 digit-requires-3 : tie.Need-digit-requires-3
 digit-requires-3 c κs = search needs
 
--- src/lib.rt:74:16
 add-result-3 : tie.Need-add-result-3
 add-result-3 c = search needs
 
--- src/lib.rt:74:9
 returns-4 : tie.Need-returns-4
 returns-4 c = λ t same. digits-stop (c .before .before .before .before .before .before .before .before .before .before .before .before .before .before .args .s .now) t same _ (three (c .before .before .before) t same) (omega arith) (omega (arith, c .before .before .before .with-digit3 .ensures .1, c .before .before .before .before .before .before .before .with-digit2 .ensures .1, c .before .before .before .before .before .before .before .before .before .before .before .with-digit .ensures .1)) (c .before .before .sign4 .ensures) (sym (c .before .digit3 .ensures) ∙ not-true _ (c .if4 .taken))
 
--- src/lib.rt:76:13
 with-digit-requires-4 : tie.Need-with-digit-requires-4
 with-digit-requires-4 c κs = (omega (arith, c .before .before .before .with-digit3 .ensures .1, c .before .before .before .before .before .before .before .with-digit2 .ensures .1, c .before .before .before .before .before .before .before .before .before .before .before .with-digit .ensures .1), sym (c .before .digit3 .ensures) ∙ not-false _ (c .if4 .left))
 
--- src/lib.rt:76:5
 add-result-4 : tie.Need-add-result-4
 add-result-4 c = search needs
 
--- src/lib.rt:53:1
 returns-5 : tie.Need-returns-5
 returns-5 c = λ t same. digits-full (four (c) t same) (omega (arith, c .with-digit4 .ensures .1, c .before .before .before .before .with-digit3 .ensures .1, c .before .before .before .before .before .before .before .before .with-digit2 .ensures .1, c .before .before .before .before .before .before .before .before .before .before .before .before .with-digit .ensures .1))
 

@@ -8,15 +8,12 @@ use Rattle.newick.proofs.label_fault.Reads as reads
 use Rattle.newick.proofs.label_fault.Lts as lts
 use Rattle.newick.proofs.check_labels.Reads as check-labels-reads
 
--- src/lib.rt:307:29
 slice-aggregate-check-labels : tie.Need-slice-aggregate-check-labels
 slice-aggregate-check-labels c = search needs
 
--- src/lib.rt:307:5
 check-labels-requires : tie.Need-check-labels-requires
 check-labels-requires c κs = (c .before .before .pre .0, search needs, λ x l. getD-replicate 1024 x 0 0 (omega (arith, c .before .before .pre .1)))
 
--- src/lib.rt:302:1
 returns : tie.Need-returns
 returns c = search needs
 

@@ -9,32 +9,25 @@ use Rattle.newick.proofs.keep.Reads as keep-reads
 use Rattle.newick.proofs.label.Reads as label-reads
 use Rattle.newick.proofs.with_place.Reads as with-place-reads
 
--- src/lib.rt:103:9
 label-requires : tie.Need-label-requires
 label-requires c κs = search needs
 
--- src/lib.rt:105:21
 with-place-requires : tie.Need-with-place-requires
 with-place-requires c κs = let y = c .before .before .pre .0 .2 in
     (omega (arith, y .within, y .short), c .before .label .ensures (c .before .before .pre .0 .0) (y .same) .small)
 
--- src/lib.rt:105:5
 keep-requires : tie.Need-keep-requires
 keep-requires c κs = search needs
 
--- src/lib.rt:107:18
 cast-t11 : tie.Need-cast-t11
 cast-t11 c = search needs
 
--- src/lib.rt:107:13
 add-t12 : tie.Need-add-t12
 add-t12 c = search needs
 
--- src/lib.rt:108:17
 add-t13 : tie.Need-add-t13
 add-t13 c = search needs
 
--- src/lib.rt:98:1
 returns : tie.Need-returns
 returns c = λ t ps y d. rw (c .keep .ensures, c .before .with-place .ensures) (took-label y d (c .before .before .before .label .result) (c .before .before .before .before .pre .1) (c .before .before .before .label .ensures t (y .same)))
 

@@ -25,59 +25,46 @@ use Rattle.newick.proofs.unpacked.Reads as unpacked-reads
 ready : (c : tie.After-copy) → Ready (c .copy .last .1 .0) (c .before .before .before .args .s .now) 0 0 0 (c .before .before .before .args .labels .now) (c .before .before .before .args .pairs .now)
 ready c = ready-start (c .copy .ensures) (c .before .before .before .pre .0) (c .before .before .before .pre .1) (c .before .before .before .pre .2)
 
--- src/lib.rt:257:5
 copy-requires : tie.Need-copy-requires
 copy-requires c κs = (c .before .before .pre .0, length-replicate {A = ℕ} 6144 0, zeros-blank 6144)
 
--- src/lib.rt:258:14
 sign-requires : tie.Need-sign-requires
 sign-requires c κs = search needs
 
--- src/lib.rt:258:8
 digit-requires : tie.Need-digit-requires
 digit-requires c κs = search needs
 
--- src/lib.rt:259:13
 leaf-requires : tie.Need-leaf-requires
 leaf-requires c κs = ((c .before .before .before .before .before .before .before .before .before .args .s .now, c .before .before .before .before .before .before .before .before .before .args .pairs .now, ready (c .before .before .before .before .before .before)), ap isDigit (sym (c .before .before .before .before .sign .ensures)) ∙ sym (c .before .before .before .digit .ensures) ∙ c .before .before .if1 .taken)
 
--- src/lib.rt:260:9
 end-requires : tie.Need-end-requires
 end-requires c κs = let T = c .before .leaf .ensures (c .before .before .before .before .before .before .before .before .before .before .before .args .s .now) (c .before .before .before .before .before .before .before .before .before .before .before .args .pairs .now) (ready (c .before .before .before .before .before .before .before .before)) 1023 in omega (arith, T .ready .within, T .ready .short)
 
--- src/lib.rt:260:9
 returns : tie.Need-returns
 returns c = let s = c .before .before .before .before .before .before .before .before .before .before .before .before .args .s .now in
     let T = c .before .before .leaf .ensures s (c .before .before .before .before .before .before .before .before .before .before .before .before .args .pairs .now) (ready (c .before .before .before .before .before .before .before .before .before)) 1023 in
     text-answers _ s _ _ _ _ _ (c .end .result) T (c .end .ensures s (ready (c .before .before .before .before .before .before .before .before .before) .same) refl (T .ready .within))
 
--- src/lib.rt:262:9
 node-requires : tie.Need-node-requires
 node-requires c κs = ((c .before .before .before .before .before .before .before .before .before .before .args .s .now, ready (c .before .before .before .before .before .before .before)), ap isDigit (sym (c .before .before .before .before .before .sign .ensures)) ∙ sym (c .before .before .before .before .digit .ensures) ∙ c .before .before .before .if1 .left)
 
--- src/lib.rt:263:8
 is-broken-requires : tie.Need-is-broken-requires
 is-broken-requires c κs = search needs
 
--- src/lib.rt:264:29
 sub-t20 : tie.Need-sub-t20
 sub-t20 c = omega (arith, leb-true 9223372036854775808 (c .before .before .node .result) (sym (c .before .is-broken .ensures) ∙ c .if2 .taken))
 
--- src/lib.rt:264:9
 returns-2 : tie.Need-returns-2
 returns-2 c = let s = c .before .before .before .before .before .before .before .before .before .before .before .before .before .args .s .now in
     text-broken s _ (broke (leb-true _ _ (sym (c .before .is-broken .ensures) ∙ c .if2 .taken)) (c .before .before .node .ensures s (ready (c .before .before .before .before .before .before .before .before .before .before))))
 
--- src/lib.rt:266:26
 unpacked-requires : tie.Need-unpacked-requires
 unpacked-requires c κs = search needs
 
--- src/lib.rt:266:5
 end-requires-2 : tie.Need-end-requires-2
 end-requires-2 c κs = let r = took (c .unpacked .ensures) (leb-false _ _ (sym (c .before .before .before .is-broken .ensures) ∙ c .before .before .if2 .left)) (c .before .before .before .before .node .ensures (c .before .before .before .before .before .before .before .before .before .before .before .before .before .before .before .args .s .now) (ready (c .before .before .before .before .before .before .before .before .before .before .before .before))) .ready in
     omega (arith, r .within, r .short)
 
--- src/lib.rt:252:1
 returns-3 : tie.Need-returns-3
 returns-3 c = let s = c .before .before .before .before .before .before .before .before .before .before .before .before .before .before .before .before .args .s .now in
     let T = took (c .before .unpacked .ensures) (leb-false _ _ (sym (c .before .before .before .before .is-broken .ensures) ∙ c .before .before .before .if2 .left)) (c .before .before .before .before .before .node .ensures s (ready (c .before .before .before .before .before .before .before .before .before .before .before .before .before))) in

@@ -7,19 +7,15 @@ use Rattle.newick.proofs.with_digit.Tie as tie
 use Rattle.newick.proofs.with_digit.Reads as reads
 use Rattle.newick.proofs.with_digit.Lts as lts
 
--- src/lib.rt:49:5
 mul-result : tie.Need-mul-result
 mul-result c = search needs
 
--- src/lib.rt:49:15
 sub-result : tie.Need-sub-result
 sub-result c = omega (arith, digit-range (c .args .c) (c .pre .1))
 
--- src/lib.rt:49:5
 add-result : tie.Need-add-result
 add-result c = search needs
 
--- src/lib.rt:45:1
 returns : tie.Need-returns
 returns c = (refl, omega (arith, digit-range (c .args .c) (c .pre .1)))
 

@@ -8,41 +8,32 @@ use Rattle.renaming.proofs.rename_rows.Lts as lts
 use Rattle.reading.proofs.children_vector.Reads as children-vector-reads
 use Rattle.shuffle.proofs.rename.Reads as rename-reads
 
--- src/lib.rt:20:33
 sub-rename : tie.Need-sub-rename
 sub-rename c = search needs
 
--- src/lib.rt:20:5
 rename-requires : tie.Need-rename-requires
 rename-requires c κs = search needs
 
--- src/lib.rt:21:34
 sub-rename-2 : tie.Need-sub-rename-2
 sub-rename-2 c = search needs
 
--- src/lib.rt:21:5
 rename-requires-2 : tie.Need-rename-requires-2
 rename-requires-2 c κs = search needs
 
--- src/lib.rt:22:5
 children-vector-requires : tie.Need-children-vector-requires
 children-vector-requires c κs = let P = c .before .before .before .before .before .before .before .before .before .before .before .before .before .before .before .before .pre in
     let R = rows-renamed _ _ _ (P .0 .0) (P .1 .0) (P .1 .1) (c .before .before .before .before .before .before .before .before .before .rename .ensures) (c .before .before .before .before .before .rename2 .ensures) in
     ((P .0 .0 .valid .some-leaf, P .0 .1, omega (arith, c .before .before .before .before .before .before .before .before .before .rename .kept, P .0 .0 .lefts), omega (arith, c .before .before .before .before .before .rename2 .kept, P .0 .0 .rights), P .0 .2), some-renamed R)
 
--- src/lib.rt:14:1
 same-length : tie.Need-same-length
 same-length c = search needs
 
--- src/lib.rt:14:1
 same-length-2 : tie.Need-same-length-2
 same-length-2 c = search needs
 
--- src/lib.rt:14:1
 same-length-3 : tie.Need-same-length-3
 same-length-3 c = search needs
 
--- src/lib.rt:14:1
 returns : tie.Need-returns
 returns c = let P = c .before .before .before .before .before .before .before .before .before .before .before .before .before .before .before .before .before .before .before .pre in
     let R = rows-renamed _ _ _ (P .0 .0) (P .1 .0) (P .1 .1) (c .before .before .before .before .before .before .before .before .before .before .before .before .rename .ensures) (c .before .before .before .before .before .before .before .before .rename2 .ensures) in

@@ -8,37 +8,29 @@ use Rattle.renaming.proofs.renamed_vector.Lts as lts
 use Rattle.renaming.proofs.rename_rows.Reads as rename-rows-reads
 use Rattle.table.proofs.rows_of.Reads as rows-of-reads
 
--- src/lib.rt:33:23
 slice-aggregate-rows-of : tie.Need-slice-aggregate-rows-of
 slice-aggregate-rows-of c = search needs
 
--- src/lib.rt:33:34
 slice-aggregate-rows-of-2 : tie.Need-slice-aggregate-rows-of-2
 slice-aggregate-rows-of-2 c = search needs
 
--- src/lib.rt:33:5
 rows-of-requires : tie.Need-rows-of-requires
 rows-of-requires c κs = search needs
 
--- src/lib.rt:34:23
 slice-aggregate-rename-rows : tie.Need-slice-aggregate-rename-rows
 slice-aggregate-rename-rows c = search needs
 
--- src/lib.rt:34:34
 slice-aggregate-rename-rows-2 : tie.Need-slice-aggregate-rename-rows-2
 slice-aggregate-rename-rows-2 c = search needs
 
--- src/lib.rt:34:5
 rename-rows-requires : tie.Need-rename-rows-requires
 rename-rows-requires c κs = let P = c .before .before .before .before .before .before .before .before .before .before .before .pre in
     let E = c .before .before .before .before .before .rows-of .ensures in
     ((rows-of _ _ _ _ _ (P .0 .0) (omega (arith, c .before .before .before .before .before .rows-of .kept)) (omega (arith, c .before .before .before .before .before .rows-of .kept)) (P .0 .1) (E .0) (E .1), P .0 .1, P .0 .2), P .1)
 
--- src/lib.rt:26:1
 same-length : tie.Need-same-length
 same-length c = search needs
 
--- src/lib.rt:26:1
 returns : tie.Need-returns
 returns c = search needs
 

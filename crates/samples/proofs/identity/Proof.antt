@@ -14,39 +14,30 @@ Inv-loop p₀ k₀ p k = (length p ≡ length p₀) × (k ≤ length p₀)
 abbrev μ-loop : tie.MeasureT-loop
 μ-loop p₀ k₀ p k = length p₀ - k
 
--- src/main.rt:33:5
 loop-holds : tie.Need-loop-holds Inv-loop μ-loop
 loop-holds c = search needs
 
--- src/main.rt:34:16
 cast-p : tie.Need-cast-p Inv-loop μ-loop
 cast-p c = search needs
 
--- src/main.rt:34:9
 mul-p : tie.Need-mul-p Inv-loop μ-loop
 mul-p c = search needs
 
--- src/main.rt:34:9
 slice-write-p : tie.Need-slice-write-p Inv-loop μ-loop
 slice-write-p c = search needs
 
--- src/main.rt:35:9
 add-k : tie.Need-add-k Inv-loop μ-loop
 add-k c = search needs
 
--- src/main.rt:33:5
 loop-less : tie.Need-loop-less Inv-loop μ-loop
 loop-less c = search needs
 
--- src/main.rt:33:5
 loop-again : tie.Need-loop-again Inv-loop μ-loop
 loop-again c = simp length-set (omega arith, omega arith)
 
--- src/main.rt:31:1
 same-length : tie.Need-same-length Inv-loop μ-loop
 same-length c = c .before .loop .inv .0
 
--- src/main.rt:31:1
 returns : tie.Need-returns Inv-loop μ-loop
 returns c = search needs
 

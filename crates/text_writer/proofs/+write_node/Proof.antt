@@ -56,7 +56,6 @@ second t c =
     (λ w. wrote-as (w .6) (w .7) (w .3 .ensures))
     (c .if2 .came)
 
--- src/lib.rt:68:13
 write-node-sub-k : (t : ℕ) → write-node-lts.Need-sub-k (
   write-label-reads.Asked,
   write-label-reads.Learnt,
@@ -65,7 +64,6 @@ write-node-sub-k : (t : ℕ) → write-node-lts.Need-sub-k (
 ) (write-node-at t) write-node.Post
 write-node-sub-k t c = search needs
 
--- src/lib.rt:69:13
 write-node-mul-l : (t : ℕ) → write-node-lts.Need-mul-l (
   write-label-reads.Asked,
   write-label-reads.Learnt,
@@ -74,7 +72,6 @@ write-node-mul-l : (t : ℕ) → write-node-lts.Need-mul-l (
 ) (write-node-at t) write-node.Post
 write-node-mul-l t c = search needs
 
--- src/lib.rt:69:13
 write-node-shared-slice-read-l : (t : ℕ) → write-node-lts.Need-shared-slice-read-l (
   write-label-reads.Asked,
   write-label-reads.Learnt,
@@ -83,7 +80,6 @@ write-node-shared-slice-read-l : (t : ℕ) → write-node-lts.Need-shared-slice-
 ) (write-node-at t) write-node.Post
 write-node-shared-slice-read-l t c = search needs
 
--- src/lib.rt:69:13
 write-node-cast-l : (t : ℕ) → write-node-lts.Need-cast-l (
   write-label-reads.Asked,
   write-label-reads.Learnt,
@@ -92,7 +88,6 @@ write-node-cast-l : (t : ℕ) → write-node-lts.Need-cast-l (
 ) (write-node-at t) write-node.Post
 write-node-cast-l t c = omega (arith, c .shared-slice-known3 .given (c .before .before .before .before .args .node - c .before .before .before .before .args .n))
 
--- src/lib.rt:70:13
 write-node-mul-r : (t : ℕ) → write-node-lts.Need-mul-r (
   write-label-reads.Asked,
   write-label-reads.Learnt,
@@ -101,7 +96,6 @@ write-node-mul-r : (t : ℕ) → write-node-lts.Need-mul-r (
 ) (write-node-at t) write-node.Post
 write-node-mul-r t c = search needs
 
--- src/lib.rt:70:13
 write-node-shared-slice-read-r : (t : ℕ) → write-node-lts.Need-shared-slice-read-r (
   write-label-reads.Asked,
   write-label-reads.Learnt,
@@ -110,7 +104,6 @@ write-node-shared-slice-read-r : (t : ℕ) → write-node-lts.Need-shared-slice-
 ) (write-node-at t) write-node.Post
 write-node-shared-slice-read-r t c = search needs
 
--- src/lib.rt:70:13
 write-node-cast-r : (t : ℕ) → write-node-lts.Need-cast-r (
   write-label-reads.Asked,
   write-label-reads.Learnt,
@@ -119,7 +112,6 @@ write-node-cast-r : (t : ℕ) → write-node-lts.Need-cast-r (
 ) (write-node-at t) write-node.Post
 write-node-cast-r t c = omega (arith, c .shared-slice-known4 .given (c .before .before .before .before .before .args .node - c .before .before .before .before .before .args .n))
 
--- src/lib.rt:71:5
 write-node-slice-write-out : (t : ℕ) → write-node-lts.Need-slice-write-out (
   write-label-reads.Asked,
   write-label-reads.Learnt,
@@ -128,7 +120,6 @@ write-node-slice-write-out : (t : ℕ) → write-node-lts.Need-slice-write-out (
 ) (write-node-at t) write-node.Post
 write-node-slice-write-out t c = open-room (c .before .before .before .before .before .pre .1 .0) (c .before .before .before .before .before .pre .1 .1)
 
--- src/lib.rt:73:29
 write-node-add-write-label : (t : ℕ) → write-node-lts.Need-add-write-label (
   write-label-reads.Asked,
   write-label-reads.Learnt,
@@ -137,7 +128,6 @@ write-node-add-write-label : (t : ℕ) → write-node-lts.Need-add-write-label (
 ) (write-node-at t) write-node.Post
 write-node-add-write-label t c = search needs
 
--- src/lib.rt:73:9
 write-node-write-label-requires : (t : ℕ) → write-node-lts.Need-write-label-requires (
   write-label-reads.Asked,
   write-label-reads.Learnt,
@@ -146,7 +136,6 @@ write-node-write-label-requires : (t : ℕ) → write-node-lts.Need-write-label-
 ) (write-node-at t) write-node.Post
 write-node-write-label-requires t c κs = leaf-room (first-room (c .before .before .before .before .before .before .before .pre .1 .0) (c .before .before .before .before .before .before .before .pre .1 .1)) (c .before .if1 .taken)
 
--- src/lib.rt:75:44
 write-node-add-write-node : (t : ℕ) → write-node-lts.Need-add-write-node (
   write-label-reads.Asked,
   write-label-reads.Learnt,
@@ -155,7 +144,6 @@ write-node-add-write-node : (t : ℕ) → write-node-lts.Need-add-write-node (
 ) (write-node-at t) write-node.Post
 write-node-add-write-node t c = search needs
 
--- src/lib.rt:75:9
 write-node-write-node-requires : (t : ℕ) → write-node-lts.Need-write-node-requires (
   write-label-reads.Asked,
   write-label-reads.Learnt,
@@ -164,7 +152,6 @@ write-node-write-node-requires : (t : ℕ) → write-node-lts.Need-write-node-re
 ) (write-node-at t) write-node.Post
 write-node-write-node-requires t c κs = (omega (arith, left-child (c .before .before .before .before .before .before .before .pre .1 .0) (c .before .before .before .before .before .before .before .pre .1 .1)), (first-room (c .before .before .before .before .before .before .before .pre .1 .0) (c .before .before .before .before .before .before .before .pre .1 .1), c .before .if1 .left))
 
--- src/lib.rt:77:5
 write-node-slice-write-out-2 : (t : ℕ) → write-node-lts.Need-slice-write-out-2 (
   write-label-reads.Asked,
   write-label-reads.Learnt,
@@ -173,7 +160,6 @@ write-node-slice-write-out-2 : (t : ℕ) → write-node-lts.Need-slice-write-out
 ) (write-node-at t) write-node.Post
 write-node-slice-write-out-2 t c = comma-room (c .before .before .before .before .before .before .pre .1 .0) (c .before .before .before .before .before .before .pre .1 .1) (first t c) .1
 
--- src/lib.rt:79:29
 write-node-add-write-label-2 : (t : ℕ) → write-node-lts.Need-add-write-label-2 (
   write-label-reads.Asked,
   write-label-reads.Learnt,
@@ -182,7 +168,6 @@ write-node-add-write-label-2 : (t : ℕ) → write-node-lts.Need-add-write-label
 ) (write-node-at t) write-node.Post
 write-node-add-write-label-2 t c = omega (arith, comma-room (c .before .before .before .before .before .before .before .before .before .pre .1 .0) (c .before .before .before .before .before .before .before .before .before .pre .1 .1) (first t (c .before .before .before)) .0)
 
--- src/lib.rt:79:9
 write-node-write-label-requires-2 : (t : ℕ) → write-node-lts.Need-write-label-requires-2 (
   write-label-reads.Asked,
   write-label-reads.Learnt,
@@ -191,7 +176,6 @@ write-node-write-label-requires-2 : (t : ℕ) → write-node-lts.Need-write-labe
 ) (write-node-at t) write-node.Post
 write-node-write-label-requires-2 t c κs = leaf-room (second-room (c .before .before .before .before .before .before .before .before .before .pre .1 .0) (c .before .before .before .before .before .before .before .before .before .pre .1 .1) (first t (c .before .before .before))) (c .before .before .if2 .taken)
 
--- src/lib.rt:81:44
 write-node-add-write-node-2 : (t : ℕ) → write-node-lts.Need-add-write-node-2 (
   write-label-reads.Asked,
   write-label-reads.Learnt,
@@ -200,7 +184,6 @@ write-node-add-write-node-2 : (t : ℕ) → write-node-lts.Need-add-write-node-2
 ) (write-node-at t) write-node.Post
 write-node-add-write-node-2 t c = omega (arith, comma-room (c .before .before .before .before .before .before .before .before .before .pre .1 .0) (c .before .before .before .before .before .before .before .before .before .pre .1 .1) (first t (c .before .before .before)) .0)
 
--- src/lib.rt:81:9
 write-node-write-node-requires-2 : (t : ℕ) → write-node-lts.Need-write-node-requires-2 (
   write-label-reads.Asked,
   write-label-reads.Learnt,
@@ -209,7 +192,6 @@ write-node-write-node-requires-2 : (t : ℕ) → write-node-lts.Need-write-node-
 ) (write-node-at t) write-node.Post
 write-node-write-node-requires-2 t c κs = (omega (arith, right-child (c .before .before .before .before .before .before .before .before .before .pre .1 .0) (c .before .before .before .before .before .before .before .before .before .pre .1 .1)), (second-room (c .before .before .before .before .before .before .before .before .before .pre .1 .0) (c .before .before .before .before .before .before .before .before .before .pre .1 .1) (first t (c .before .before .before)), c .before .before .if2 .left))
 
--- src/lib.rt:83:5
 write-node-slice-write-out-3 : (t : ℕ) → write-node-lts.Need-slice-write-out-3 (
   write-label-reads.Asked,
   write-label-reads.Learnt,
@@ -218,7 +200,6 @@ write-node-slice-write-out-3 : (t : ℕ) → write-node-lts.Need-slice-write-out
 ) (write-node-at t) write-node.Post
 write-node-slice-write-out-3 t c = close-room (c .before .before .before .before .before .before .before .pre .1 .0) (c .before .before .before .before .before .before .before .pre .1 .1) (first t (c .before)) (second t c) .1
 
--- src/lib.rt:84:5
 write-node-add-result : (t : ℕ) → write-node-lts.Need-add-result (
   write-label-reads.Asked,
   write-label-reads.Learnt,
@@ -227,7 +208,6 @@ write-node-add-result : (t : ℕ) → write-node-lts.Need-add-result (
 ) (write-node-at t) write-node.Post
 write-node-add-result t c = omega (arith, close-room (c .before .before .before .before .before .before .before .before .pre .1 .0) (c .before .before .before .before .before .before .before .before .pre .1 .1) (first t (c .before .before)) (second t (c .before)) .0)
 
--- src/lib.rt:56:1
 write-node-same-length : (t : ℕ) → write-node-lts.Need-same-length (
   write-label-reads.Asked,
   write-label-reads.Learnt,
@@ -236,7 +216,6 @@ write-node-same-length : (t : ℕ) → write-node-lts.Need-same-length (
 ) (write-node-at t) write-node.Post
 write-node-same-length t c = wrote-length (pair-wrote (c .before .before .before .before .before .before .before .before .pre .1 .0) (c .before .before .before .before .before .before .before .before .pre .1 .1) (first t (c .before .before)) (second t (c .before)))
 
--- src/lib.rt:56:1
 write-node-returns : (t : ℕ) → write-node-lts.Need-returns (
   write-label-reads.Asked,
   write-label-reads.Learnt,

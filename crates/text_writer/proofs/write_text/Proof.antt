@@ -23,39 +23,30 @@ root c =
     (λ w. wrote-as (w .5) (w .6) (w .2 .ensures))
     (c .if1 .came)
 
--- src/lib.rt:92:21
 sub-root : tie.Need-sub-root
 sub-root c = search needs
 
--- src/lib.rt:92:16
 add-root : tie.Need-add-root
 add-root c = search needs
 
--- src/lib.rt:92:16
 sub-root-2 : tie.Need-sub-root-2
 sub-root-2 c = search needs
 
--- src/lib.rt:94:9
 write-label-requires : tie.Need-write-label-requires
 write-label-requires c κs = leaf-room (root-room (c .before .before .before .before .before .pre .0) (c .before .before .before .before .before .args .out .now) (c .before .before .before .before .before .pre .1)) (c .before .if1 .taken)
 
--- src/lib.rt:96:9
 write-node-requires : tie.Need-write-node-requires
 write-node-requires c κs = (root-room (c .before .before .before .before .before .pre .0) (c .before .before .before .before .before .args .out .now) (c .before .before .before .before .before .pre .1), c .before .if1 .left)
 
--- src/lib.rt:98:5
 slice-write-out : tie.Need-slice-write-out
 slice-write-out c = end-room (c .before .before .before .before .pre .0) (c .before .before .before .before .args .out .now) (c .before .before .before .before .pre .1) (root c) .1
 
--- src/lib.rt:99:5
 add-result : tie.Need-add-result
 add-result c = omega (arith, end-room (c .before .before .before .before .before .pre .0) (c .before .before .before .before .before .args .out .now) (c .before .before .before .before .before .pre .1) (root (c .before)) .0)
 
--- src/lib.rt:87:1
 same-length : tie.Need-same-length
 same-length c = simp length-set (wrote-length (root (c .before)))
 
--- src/lib.rt:87:1
 returns : tie.Need-returns
 returns c = text-wrote (c .before .before .before .before .before .pre .0) (c .before .before .before .before .before .args .out .now) (c .before .before .before .before .before .pre .1) (root (c .before))
 

@@ -8,39 +8,30 @@ use Rattle.text_writer.proofs.write_two.Reads as reads
 use Rattle.text_writer.proofs.write_two.Lts as lts
 use Rattle.text_writer.proofs.sign.Reads as sign-reads
 
--- src/lib.rt:25:15
 sign-requires : tie.Need-sign-requires
 sign-requires c κs = search needs
 
--- src/lib.rt:25:5
 slice-write-out : tie.Need-slice-write-out
 slice-write-out c = search needs
 
--- src/lib.rt:26:28
 mul-sign : tie.Need-mul-sign
 mul-sign c = search needs
 
--- src/lib.rt:26:24
 sub-sign : tie.Need-sub-sign
 sub-sign c = search needs
 
--- src/lib.rt:26:19
 sign-requires-2 : tie.Need-sign-requires-2
 sign-requires-2 c κs = search needs
 
--- src/lib.rt:26:9
 add-out : tie.Need-add-out
 add-out c = search needs
 
--- src/lib.rt:26:5
 slice-write-out-2 : tie.Need-slice-write-out-2
 slice-write-out-2 c = simp length-set (omega (arith, c .before .before .before .pre .1))
 
--- src/lib.rt:20:1
 same-length : tie.Need-same-length
 same-length c = search needs
 
--- src/lib.rt:20:1
 returns : tie.Need-returns
 returns c = two-there (c .before .before .before .args .out .now) (c .before .before .before .args .at) (c .before .before .before .args .x) _ _ (c .before .sign .ensures) (c .sign2 .ensures)
 

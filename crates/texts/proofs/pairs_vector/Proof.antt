@@ -8,37 +8,29 @@ use Rattle.texts.proofs.pairs_vector.Lts as lts
 use Rattle.newick.proofs.children.Reads as children-reads
 use Rattle.reading.proofs.children_vector.Reads as children-vector-reads
 
--- src/lib.rt:65:32
 slice-aggregate-children : tie.Need-slice-aggregate-children
 slice-aggregate-children c = search needs
 
--- src/lib.rt:65:43
 slice-aggregate-children-2 : tie.Need-slice-aggregate-children-2
 slice-aggregate-children-2 c = search needs
 
--- src/lib.rt:65:5
 children-requires : tie.Need-children-requires
 children-requires c κs = search needs
 
--- src/lib.rt:66:33
 slice-aggregate-children-vector : tie.Need-slice-aggregate-children-vector
 slice-aggregate-children-vector c = search needs
 
--- src/lib.rt:66:40
 slice-aggregate-children-vector-2 : tie.Need-slice-aggregate-children-vector-2
 slice-aggregate-children-vector-2 c = search needs
 
--- src/lib.rt:66:5
 children-vector-requires : tie.Need-children-vector-requires
 children-vector-requires c κs = let P = c .before .before .before .before .before .before .before .before .before .before .pre in
     let L = c .before .before .before .before .before .children .ensures in
     ((P .0 .0, P .0 .1, search needs, search needs, P .0 .3), (_, kept-children _ _ _ _ _ _ _ (P .1 .1) (P .0 .2) (L .0) (L .1)))
 
--- src/lib.rt:58:1
 same-length : tie.Need-same-length
 same-length c = search needs
 
--- src/lib.rt:58:1
 returns : tie.Need-returns
 returns c = λ t T. kept-vector _ _ _ _ _ _ t T (c .before .before .before .before .before .before .before .before .before .before .before .before .before .pre .0 .2) (c .before .before .before .before .before .before .before .before .children .ensures .0) (c .before .before .before .before .before .before .before .before .children .ensures .1) _ _ (c .before .before .children-vector .ensures)
 

@@ -11,48 +11,38 @@ use Rattle.newick.proofs.label_fault.Reads as label-fault-reads
 use Rattle.newick.proofs.text.Reads as text-reads
 use Rattle.texts.proofs.pairs_vector.Reads as pairs-vector-reads
 
--- src/lib.rt:76:11
 text-requires : tie.Need-text-requires
 text-requires c κs = search needs
 
--- src/lib.rt:77:22
 enum-known-k : tie.Need-enum-known-k
 enum-known-k c = search needs
 
--- src/lib.rt:78:20
 enum-known-a : tie.Need-enum-known-a
 enum-known-a c = search needs
 
--- src/lib.rt:81:17
 returns : tie.Need-returns
 returns c = let T = rw (c .before .before .a .given .1) at (c .before .before .before .before .text .ensures) in
     too-many (c .before .before .before .before .before .before .before .before .before .pre .0) T (c .if1 .taken)
 
--- src/lib.rt:83:39
 slice-aggregate-label-fault : tie.Need-slice-aggregate-label-fault
 slice-aggregate-label-fault c = let T = rw (c .before .before .before .a .given .1) at (c .before .before .before .before .before .text .ensures) in
     labels-kept (c .before .before .before .before .before .before .before .before .before .before .pre .0) T refl
 
--- src/lib.rt:83:19
 label-fault-requires : tie.Need-label-fault-requires
 label-fault-requires c κs = let T = rw (c .before .before .before .a .given .1) at (c .before .before .before .before .before .text .ensures) in
     let l = labels-kept (c .before .before .before .before .before .before .before .before .before .before .pre .0) T refl in
     (omega (arith, c .before .if1 .left), c .before .if1 .left)
 
--- src/lib.rt:84:27
 enum-known-k-2 : tie.Need-enum-known-k-2
 enum-known-k-2 c = search needs
 
--- src/lib.rt:86:34
 enum-told : tie.Need-enum-told
 enum-told c = search needs
 
--- src/lib.rt:86:34
 slice-aggregate-pairs-vector : tie.Need-slice-aggregate-pairs-vector
 slice-aggregate-pairs-vector c = let T = rw (c .before .before .before .before .before .before .before .a .given .1) at (c .before .before .before .before .before .before .before .before .before .text .ensures) in
     pairs-kept (c .before .before .before .before .before .before .before .before .before .before .before .before .before .before .pre .0) T refl
 
--- src/lib.rt:86:21
 pairs-vector-requires : tie.Need-pairs-vector-requires
 pairs-vector-requires c κs = let short = c .before .before .before .before .before .before .before .before .before .before .before .before .before .before .before .pre .0 in
     let few = c .before .before .before .before .before .before .if1 .left in
@@ -61,20 +51,16 @@ pairs-vector-requires c κs = let short = c .before .before .before .before .bef
     let l = pairs-kept short T refl in
     ((some-labels short T, few, omega arith, search needs), (_, recorded short T few refl F refl))
 
--- src/lib.rt:70:1
 returns-2 : tie.Need-returns-2
 returns-2 c = breaks (c .before .before .before .before .before .before .before .before .pre .0) (rw (c .before .k .given .1) at (c .before .before .before .text .ensures))
 
--- src/lib.rt:70:1
 returns-3 : tie.Need-returns-3
 returns-3 c = let T = rw (c .before .before .before .before .before .before .before .a .given .1) at (c .before .before .before .before .before .before .before .before .before .text .ensures) in
     label-found (c .before .before .before .before .before .before .before .before .before .before .before .before .before .before .pre .0) T (c .before .before .before .before .before .if1 .left) refl _ (rw (c .before .k2 .given .1) at (c .before .before .before .label-fault .ensures))
 
--- src/lib.rt:70:1
 same-length : tie.Need-same-length
 same-length c = search needs
 
--- src/lib.rt:70:1
 returns-4 : tie.Need-returns-4
 returns-4 c = let short = c .before .before .before .before .before .before .before .before .before .before .before .before .before .before .before .before .before .before .pre .0 in
     let few = c .before .before .before .before .before .before .before .before .before .if1 .left in

@@ -7,47 +7,36 @@ use Rattle.texts.proofs.text_length.Reads as reads
 use Rattle.texts.proofs.text_length.Lts as lts
 use Rattle.texts.proofs.reaching.Reads as reaching-reads
 
--- src/lib.rt:40:9
 reaching-requires : tie.Need-reaching-requires
 reaching-requires c κs = search needs
 
--- src/lib.rt:41:9
 reaching-requires-2 : tie.Need-reaching-requires-2
 reaching-requires-2 c κs = search needs
 
--- src/lib.rt:42:9
 reaching-requires-3 : tie.Need-reaching-requires-3
 reaching-requires-3 c κs = search needs
 
--- src/lib.rt:43:14
 sub-result : tie.Need-sub-result
 sub-result c = search needs
 
--- src/lib.rt:43:9
 mul-result : tie.Need-mul-result
 mul-result c = search needs
 
--- src/lib.rt:43:5
 add-result : tie.Need-add-result
 add-result c = search needs
 
--- src/lib.rt:43:5
 add-result-2 : tie.Need-add-result-2
 add-result-2 c = search needs
 
--- src/lib.rt:43:5
 add-result-3 : tie.Need-add-result-3
 add-result-3 c = search needs
 
--- src/lib.rt:43:5
 add-result-4 : tie.Need-add-result-4
 add-result-4 c = search needs
 
--- src/lib.rt:43:5
 add-result-5 : tie.Need-add-result-5
 add-result-5 c = search needs
 
--- src/lib.rt:36:1
 returns : tie.Need-returns
 returns c = length-closed _ _ _ _ (c .before .before .reaching .ensures) (c .before .reaching2 .ensures) (c .reaching3 .ensures)
 

@@ -8,37 +8,29 @@ use Rattle.texts.proofs.write_tree.Lts as lts
 use Rattle.text_writer.proofs.write_text.Reads as write-text-reads
 use Rattle.table.proofs.rows_of.Reads as rows-of-reads
 
--- src/lib.rt:53:23
 slice-aggregate-rows-of : tie.Need-slice-aggregate-rows-of
 slice-aggregate-rows-of c = search needs
 
--- src/lib.rt:53:34
 slice-aggregate-rows-of-2 : tie.Need-slice-aggregate-rows-of-2
 slice-aggregate-rows-of-2 c = search needs
 
--- src/lib.rt:53:5
 rows-of-requires : tie.Need-rows-of-requires
 rows-of-requires c κs = search needs
 
--- src/lib.rt:54:24
 slice-aggregate-write-text : tie.Need-slice-aggregate-write-text
 slice-aggregate-write-text c = search needs
 
--- src/lib.rt:54:31
 slice-aggregate-write-text-2 : tie.Need-slice-aggregate-write-text-2
 slice-aggregate-write-text-2 c = search needs
 
--- src/lib.rt:54:5
 write-text-requires : tie.Need-write-text-requires
 write-text-requires c κs = let P = c .before .before .before .before .before .before .before .before .before .before .pre in
     let L = c .before .before .before .before .before .rows-of .ensures in
     (rows-ordered _ _ _ _ _ (P .0) (P .1) (L .0) (L .1), text-fits _ _ _ _ _ (P .0) (P .1) (L .0) (L .1) _ (P .2))
 
--- src/lib.rt:47:1
 same-length : tie.Need-same-length
 same-length c = search needs
 
--- src/lib.rt:47:1
 returns : tie.Need-returns
 returns c = let P = c .before .before .before .before .before .before .before .before .before .before .before .before .before .pre in
     let L = c .before .before .before .before .before .before .before .before .rows-of .ensures in

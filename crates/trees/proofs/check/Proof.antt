@@ -9,38 +9,30 @@ use Rattle.trees.proofs.check.Lts as lts
 use Rattle.trees.proofs.refuse.Reads as refuse-reads
 use Rattle.vector.proofs.first_fault.Reads as first-fault-reads
 
--- src/lib.rt:18:9
 refuse-requires : tie.Need-refuse-requires
 refuse-requires c κs = search needs
 
--- src/lib.rt:18:9
 returns : tie.Need-returns
 unfolding answers.reads answers.numberOf
 returns c = empty-refused _ _ (c .before .if1 .taken) (c .refuse .ensures)
 
--- src/lib.rt:21:9
 refuse-requires-2 : tie.Need-refuse-requires-2
 refuse-requires-2 c κs = search needs
 
--- src/lib.rt:21:9
 returns-2 : tie.Need-returns-2
 unfolding answers.reads answers.numberOf
 returns-2 c = large-refused _ _ (c .before .if2 .taken) (c .refuse2 .ensures)
 
--- src/lib.rt:23:9
 first-fault-requires : tie.Need-first-fault-requires
 first-fault-requires c κs = search needs
 
--- src/lib.rt:25:9
 refuse-requires-3 : tie.Need-refuse-requires-3
 refuse-requires-3 c κs = search needs
 
--- src/lib.rt:25:9
 returns-3 : tie.Need-returns-3
 unfolding answers.reads answers.numberOf
 returns-3 c = fault-refused _ _ _ (omega arith) (omega arith) (c .before .before .first-fault .ensures) (c .before .if3 .taken) (c .refuse3 .ensures)
 
--- src/lib.rt:13:1
 returns-4 : tie.Need-returns-4
 unfolding answers.reads answers.numberOf
 returns-4 c = passes _ _ (omega arith) (omega arith) (c .before .first-fault .ensures) (c .if3 .left)

@@ -14,98 +14,78 @@ use Rattle.texts.proofs.read_vector.Reads as read-vector-reads
 use Rattle.trees.proofs.refuse.Reads as refuse-reads
 use Rattle.vector.proofs.copy_out.Reads as copy-out-reads
 
--- src/lib.rt:114:9
 refuse-requires : tie.Need-refuse-requires
 refuse-requires c κs = search needs
 
--- src/lib.rt:114:9
 returns : tie.Need-returns
 unfolding answers.reads answers.numberOf
 returns c = let M = refused-early _ _ _ _ _ _ refl (c .refuse .ensures) in
     (_, too-long (c .before .if1 .taken), M .outcome, M .buffer)
 
--- src/lib.rt:117:36
 slice-aggregate-read-vector : tie.Need-slice-aggregate-read-vector
 slice-aggregate-read-vector c = search needs
 
--- src/lib.rt:117:11
 read-vector-requires : tie.Need-read-vector-requires
 read-vector-requires c κs = search needs
 
--- src/lib.rt:118:23
 enum-known-place : tie.Need-enum-known-place
 enum-known-place c = search needs
 
--- src/lib.rt:118:33
 refuse-requires-2 : tie.Need-refuse-requires-2
 refuse-requires-2 c κs = search needs
 
--- src/lib.rt:119:34
 enum-told : tie.Need-enum-told
 enum-told c = search needs
 
--- src/lib.rt:119:27
 refuse-requires-3 : tie.Need-refuse-requires-3
 refuse-requires-3 c κs = search needs
 
--- src/lib.rt:120:22
 enum-known-place-2 : tie.Need-enum-known-place-2
 enum-known-place-2 c = search needs
 
--- src/lib.rt:120:32
 refuse-requires-4 : tie.Need-refuse-requires-4
 refuse-requires-4 c κs = search needs
 
--- src/lib.rt:121:24
 enum-known-n : tie.Need-enum-known-n
 enum-known-n c = search needs
 
--- src/lib.rt:123:17
 refuse-requires-5 : tie.Need-refuse-requires-5
 refuse-requires-5 c κs = search needs
 
--- src/lib.rt:123:17
 returns-2 : tie.Need-returns-2
 unfolding answers.reads answers.numberOf
 returns-2 c = let H = rw (c .before .before .before .n .given .1) at (c .before .before .before .before .before .before .read-vector .ensures) in
     let M = short-room _ _ _ _ _ _ refl (H .count) (c .before .if2 .taken) (c .refuse5 .ensures) in
     (_, H .makes, M .outcome, M .buffer)
 
--- src/lib.rt:125:30
 slice-aggregate-copy-out : tie.Need-slice-aggregate-copy-out
 slice-aggregate-copy-out c = search needs
 
--- src/lib.rt:125:13
 copy-out-requires : tie.Need-copy-out-requires
 copy-out-requires c κs = let H = rw (c .before .before .before .before .n .given .1) at (c .before .before .before .before .before .before .before .read-vector .ensures) in
     (held-there H, c .before .before .if2 .left)
 
--- src/lib.rt:110:1
 returns-3 : tie.Need-returns-3
 unfolding answers.reads answers.numberOf
 returns-3 c = let F = rw (c .before .before .place .given .1) at (c .before .before .before .before .before .read-vector .ensures) in
     let M = refused-early _ _ _ _ _ _ refl (c .refuse2 .ensures) in
     (_, F, M .outcome, M .buffer)
 
--- src/lib.rt:110:1
 returns-4 : tie.Need-returns-4
 unfolding answers.reads answers.numberOf
 returns-4 c = let F = rw (c .before .enum-told .given .1) at (c .before .before .before .before .read-vector .ensures) in
     let M = refused-early _ _ _ _ _ _ refl (c .refuse3 .ensures) in
     (_, F, M .outcome, M .buffer)
 
--- src/lib.rt:110:1
 returns-5 : tie.Need-returns-5
 unfolding answers.reads answers.numberOf
 returns-5 c = let F = rw (c .before .before .place2 .given .1) at (c .before .before .before .before .before .read-vector .ensures) in
     let M = refused-early _ _ _ _ _ _ refl (c .refuse4 .ensures) in
     (_, F, M .outcome, M .buffer)
 
--- src/lib.rt:110:1
 same-length : tie.Need-same-length
 same-length c = search needs
 
--- src/lib.rt:110:1
 returns-6 : tie.Need-returns-6
 unfolding answers.reads answers.numberOf
 returns-6 c = let H = rw (c .before .before .before .before .before .before .before .n .given .1) at (c .before .before .before .before .before .before .before .before .before .before .read-vector .ensures) in

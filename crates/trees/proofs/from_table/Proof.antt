@@ -14,90 +14,71 @@ use Rattle.trees.proofs.refuse.Reads as refuse-reads
 use Rattle.trees.proofs.row_kind.Reads as row-kind-reads
 use Rattle.vector.proofs.copy_out.Reads as copy-out-reads
 
--- src/lib.rt:56:9
 refuse-requires : tie.Need-refuse-requires
 refuse-requires c κs = search needs
 
--- src/lib.rt:56:9
 returns : tie.Need-returns
 unfolding answers.reads answers.numberOf
 returns c = let M = refused-early _ _ _ _ _ _ (no-leaves _ _ (c .before .if1 .taken)) (c .refuse .ensures) in
     (M .outcome, M .buffer)
 
--- src/lib.rt:59:9
 refuse-requires-2 : tie.Need-refuse-requires-2
 refuse-requires-2 c κs = search needs
 
--- src/lib.rt:59:9
 returns-2 : tie.Need-returns-2
 unfolding answers.reads answers.numberOf
 returns-2 c = let M = refused-early _ _ _ _ _ _ (too-many-leaves _ _ (c .before .if2 .taken)) (c .refuse2 .ensures) in
     (M .outcome, M .buffer)
 
--- src/lib.rt:61:23
 sub-wanted : tie.Need-sub-wanted
 sub-wanted c = search needs
 
--- src/lib.rt:61:18
 mul-wanted : tie.Need-mul-wanted
 mul-wanted c = search needs
 
--- src/lib.rt:63:9
 refuse-requires-3 : tie.Need-refuse-requires-3
 refuse-requires-3 c κs = search needs
 
--- src/lib.rt:63:9
 returns-3 : tie.Need-returns-3
 unfolding answers.reads answers.numberOf
 returns-3 c = let M = refused-early _ _ _ _ _ _ (wrong-rows _ _ (omega arith) (c .before .before .if2 .left) (c .before .if3 .taken)) (c .refuse3 .ensures) in
     (M .outcome, M .buffer)
 
--- src/lib.rt:66:53
 slice-aggregate-table-vector : tie.Need-slice-aggregate-table-vector
 slice-aggregate-table-vector c = search needs
 
--- src/lib.rt:66:9
 table-vector-requires : tie.Need-table-vector-requires
 table-vector-requires c κs = search needs
 
--- src/lib.rt:68:23
 row-kind-requires : tie.Need-row-kind-requires
 row-kind-requires c κs = search needs
 
--- src/lib.rt:68:9
 refuse-requires-4 : tie.Need-refuse-requires-4
 refuse-requires-4 c κs = search needs
 
--- src/lib.rt:68:9
 returns-4 : tie.Need-returns-4
 unfolding answers.reads
 returns-4 c = let M = refused-early _ _ _ _ _ _ (row-refused _ _ _ (omega arith) (c .before .before .before .before .before .before .before .before .if2 .left) (c .before .before .before .before .before .before .before .if3 .left) (c .before .before .before .before .before .table-vector .ensures .found (c .before .before .if4 .taken))) (rw (c .before .row-kind .ensures) at (c .refuse4 .ensures)) in
     (M .outcome, M .buffer)
 
--- src/lib.rt:71:9
 refuse-requires-5 : tie.Need-refuse-requires-5
 refuse-requires-5 c κs = search needs
 
--- src/lib.rt:71:9
 returns-5 : tie.Need-returns-5
 unfolding answers.reads answers.numberOf
 returns-5 c = let f = c .before .before .before .before .before .table-vector .ensures .none-found (c .before .before .if4 .left) in
     let M = short-room _ _ _ _ _ _ (rows-accepted _ _ (omega arith) (c .before .before .before .before .before .before .before .before .if2 .left) (c .before .before .before .before .before .before .before .if3 .left) f) (vector-count _ _ (omega arith) (c .before .before .before .before .before .before .before .if3 .left) f) (c .before .if5 .taken) (c .refuse5 .ensures) in
     (M .outcome, M .buffer)
 
--- src/lib.rt:73:22
 slice-aggregate-copy-out : tie.Need-slice-aggregate-copy-out
 slice-aggregate-copy-out c = search needs
 
--- src/lib.rt:73:5
 copy-out-requires : tie.Need-copy-out-requires
 copy-out-requires c κs = search needs
 
--- src/lib.rt:51:1
 same-length : tie.Need-same-length
 same-length c = search needs
 
--- src/lib.rt:51:1
 returns-6 : tie.Need-returns-6
 unfolding answers.reads answers.numberOf
 returns-6 c = let T = c .before .before .before .before .before .before .before .before .before .table-vector .ensures in

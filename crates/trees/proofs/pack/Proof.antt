@@ -16,50 +16,40 @@ use Rattle.record.proofs.record_length.Reads as record-length-reads
 use Rattle.trees.proofs.check.Reads as check-reads
 use Rattle.trees.proofs.refuse.Reads as refuse-reads
 
--- src/lib.rt:53:11
 check-requires : tie.Need-check-requires
 check-requires c κs = search needs
 
--- src/lib.rt:54:25
 enum-known-why : tie.Need-enum-known-why
 enum-known-why c = search needs
 
--- src/lib.rt:56:48
 enum-told : tie.Need-enum-told
 enum-told c = search needs
 
--- src/lib.rt:56:17
 record-length-requires : tie.Need-record-length-requires
 record-length-requires c κs = let S = checked-sound _ _ _ (c .before .before .check .ensures) (c .enum-told .given .1) in
     (S .valid .some-leaf, S .small)
 
--- src/lib.rt:58:17
 refuse-requires : tie.Need-refuse-requires
 refuse-requires c κs = search needs
 
--- src/lib.rt:58:17
 returns : tie.Need-returns
 unfolding answers.reads answers.numberOf
 returns c = let S = checked-sound _ _ _ (c .before .before .before .before .before .check .ensures) (c .before .before .before .enum-told .given .1) in
     let M = short-room _ _ _ _ _ _ (record-made _ S) (length-record _ ∙ sym (c .before .before .record-length .ensures)) (c .before .if1 .taken) (c .refuse .ensures) in
     (M .outcome, M .buffer)
 
--- src/lib.rt:60:13
 pack-into-requires : tie.Need-pack-into-requires
 pack-into-requires c κs = let S = checked-sound _ _ _ (c .before .before .before .before .before .check .ensures) (c .before .before .before .enum-told .given .1) in
     (S .valid, S .small, rw (c .before .before .record-length .ensures) at (c .before .if1 .left))
 
--- src/lib.rt:49:1
 returns-2 : tie.Need-returns-2
 unfolding calls.pack
 returns-2 c = let A = alike _ _ _ (c .before .before .before .check .ensures) (c .before .why .given .1) in
     (refused-alike _ _ _ _ A, kept-alike _ _ _ _ _ A)
 
--- src/lib.rt:49:1
 same-length : tie.Need-same-length
 same-length c = search needs
 
--- src/lib.rt:49:1
 returns-3 : tie.Need-returns-3
 unfolding answers.reads answers.numberOf
 returns-3 c = let S = checked-sound _ _ _ (c .before .before .before .before .before .before .before .before .check .ensures) (c .before .before .before .before .before .before .enum-told .given .1) in

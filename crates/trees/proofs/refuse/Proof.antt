@@ -5,7 +5,6 @@ use Rattle.trees.proofs.refuse.Tie as tie
 use Rattle.trees.proofs.refuse.Reads as reads
 use Rattle.trees.proofs.refuse.Lts as lts
 
--- src/lib.rt:31:1
 returns : tie.Need-returns
 unfolding answers.reads answers.numberOf
 returns c = search needs

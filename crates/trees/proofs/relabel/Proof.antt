@@ -15,49 +15,39 @@ use Rattle.shuffle.proofs.permutation_fault.Reads as permutation-fault-reads
 use Rattle.trees.proofs.check.Reads as check-reads
 use Rattle.trees.proofs.refuse.Reads as refuse-reads
 
--- src/lib.rt:169:11
 check-requires : tie.Need-check-requires
 check-requires c κs = search needs
 
--- src/lib.rt:170:25
 enum-known-why : tie.Need-enum-known-why
 enum-known-why c = search needs
 
--- src/lib.rt:172:17
 enum-told : tie.Need-enum-told
 enum-told c = search needs
 
--- src/lib.rt:174:17
 refuse-requires : tie.Need-refuse-requires
 refuse-requires c κs = search needs
 
--- src/lib.rt:174:17
 returns : tie.Need-returns
 unfolding answers.reads answers.numberOf
 returns c = let S = checked-sound _ _ _ (c .before .before .before .before .check .ensures) (c .before .before .enum-told .given .1) in
     let M = refused-early _ _ _ _ _ _ (length-refused _ _ S (c .before .if1 .taken)) (c .refuse .ensures) in
     (M .outcome, M .buffer)
 
--- src/lib.rt:176:17
 permutation-fault-requires : tie.Need-permutation-fault-requires
 permutation-fault-requires c κs = checked-sound _ _ _ (c .before .before .before .check .ensures) (c .before .enum-told .given .1) .small
 
--- src/lib.rt:178:17
 refuse-requires-2 : tie.Need-refuse-requires-2
 refuse-requires-2 c κs = search needs
 
--- src/lib.rt:178:17
 returns-2 : tie.Need-returns-2
 unfolding answers.reads answers.numberOf
 returns-2 c = let S = checked-sound _ _ _ (c .before .before .before .before .before .before .check .ensures) (c .before .before .before .before .enum-told .given .1) in
     let M = refused-early _ _ _ _ _ _ (value-refused _ _ _ S (c .before .before .before .if1 .left) (c .before .before .permutation-fault .ensures .1) (c .before .if2 .taken)) (c .refuse2 .ensures) in
     (M .outcome, M .buffer)
 
--- src/lib.rt:181:17
 refuse-requires-3 : tie.Need-refuse-requires-3
 refuse-requires-3 c κs = search needs
 
--- src/lib.rt:181:17
 returns-3 : tie.Need-returns-3
 unfolding answers.reads answers.numberOf
 returns-3 c = let S = checked-sound _ _ _ (c .before .before .before .before .before .before .before .check .ensures) (c .before .before .before .before .before .enum-told .given .1) in
@@ -65,22 +55,18 @@ returns-3 c = let S = checked-sound _ _ _ (c .before .before .before .before .be
     let M = short-room _ _ _ _ _ _ (relabel-made _ _ S (c .before .before .before .before .if1 .left) f) (renamed-count _ _ S (c .before .before .before .before .if1 .left) f) (c .before .if3 .taken) (c .refuse3 .ensures) in
     (M .outcome, M .buffer)
 
--- src/lib.rt:183:13
 renamed-vector-requires : tie.Need-renamed-vector-requires
 renamed-vector-requires c κs = let S = checked-sound _ _ _ (c .before .before .before .before .before .before .before .check .ensures) (c .before .before .before .before .before .enum-told .given .1) in
     ((S .valid, S .small, c .before .if3 .left), (c .before .before .before .before .if1 .left, no-value-fault _ _ _ (c .before .before .before .before .if1 .left) (c .before .before .before .permutation-fault .ensures .1) (c .before .before .if2 .left)))
 
--- src/lib.rt:165:1
 returns-4 : tie.Need-returns-4
 unfolding calls.relabel
 returns-4 c = let A = alike _ _ _ (c .before .before .before .check .ensures) (c .before .why .given .1) in
     (refused-alike _ _ _ _ A, kept-alike _ _ _ _ _ A)
 
--- src/lib.rt:165:1
 same-length : tie.Need-same-length
 same-length c = search needs
 
--- src/lib.rt:165:1
 returns-5 : tie.Need-returns-5
 unfolding answers.reads answers.numberOf
 returns-5 c = let S = checked-sound _ _ _ (c .before .before .before .before .before .before .before .before .before .before .check .ensures) (c .before .before .before .before .before .before .before .before .enum-told .given .1) in

@@ -8,17 +8,14 @@ use Rattle.trees.proofs.row_kind.Tie as tie
 use Rattle.trees.proofs.row_kind.Reads as reads
 use Rattle.trees.proofs.row_kind.Lts as lts
 
--- src/lib.rt:82:9
 returns : tie.Need-returns
 unfolding answers.numberOf verdicts.rowNumber
 returns c = rw (eq-eqb _ _ (c .if1 .taken))
 
--- src/lib.rt:85:9
 returns-2 : tie.Need-returns-2
 unfolding answers.numberOf verdicts.rowNumber
 returns-2 c = rw (ne-eqb _ _ (c .before .if1 .left), eq-eqb _ _ (c .if2 .taken))
 
--- src/lib.rt:78:1
 returns-3 : tie.Need-returns-3
 unfolding answers.numberOf verdicts.rowNumber
 returns-3 c = rw (ne-eqb _ _ (c .before .if1 .left), ne-eqb _ _ (c .if2 .left))

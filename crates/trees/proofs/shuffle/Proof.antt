@@ -14,56 +14,44 @@ use Rattle.renaming.proofs.shuffled.Reads as shuffled-reads
 use Rattle.trees.proofs.check.Reads as check-reads
 use Rattle.trees.proofs.refuse.Reads as refuse-reads
 
--- src/lib.rt:148:11
 check-requires : tie.Need-check-requires
 check-requires c κs = search needs
 
--- src/lib.rt:149:25
 enum-known-why : tie.Need-enum-known-why
 enum-known-why c = search needs
 
--- src/lib.rt:151:17
 enum-told : tie.Need-enum-told
 enum-told c = search needs
 
--- src/lib.rt:153:17
 refuse-requires : tie.Need-refuse-requires
 refuse-requires c κs = search needs
 
--- src/lib.rt:153:17
 returns : tie.Need-returns
 unfolding answers.reads answers.numberOf
 returns c = shuffle-short _ _ _ _ (checked-sound _ _ _ (c .before .before .before .before .check .ensures) (c .before .before .enum-told .given .1)) (omega arith) (c .refuse .ensures)
 
--- src/lib.rt:156:17
 refuse-requires-2 : tie.Need-refuse-requires-2
 refuse-requires-2 c κs = search needs
 
--- src/lib.rt:156:17
 returns-2 : tie.Need-returns-2
 unfolding answers.reads answers.numberOf
 returns-2 c = shuffle-short _ _ _ _ (checked-sound _ _ _ (c .before .before .before .before .before .check .ensures) (c .before .before .before .enum-told .given .1)) (omega arith) (c .refuse2 .ensures)
 
--- src/lib.rt:158:13
 shuffled-requires : tie.Need-shuffled-requires
 shuffled-requires c κs = let S = checked-sound _ _ _ (c .before .before .before .before .before .before .check .ensures) (c .before .before .before .before .enum-told .given .1) in
     (S .valid, S .small, c .before .before .before .if1 .left, c .before .before .if2 .left)
 
--- src/lib.rt:143:1
 returns-3 : tie.Need-returns-3
 unfolding calls.shuffleNew calls.shuffleVector
 returns-3 c = let A = alike _ _ _ (c .before .before .before .check .ensures) (c .before .why .given .1) in
     (refused-alike _ _ _ _ A, (kept-alike _ _ _ _ _ A, kept-alike _ _ _ _ _ A))
 
--- src/lib.rt:143:1
 same-length : tie.Need-same-length
 same-length c = search needs
 
--- src/lib.rt:143:1
 same-length-2 : tie.Need-same-length-2
 same-length-2 c = search needs
 
--- src/lib.rt:143:1
 returns-4 : tie.Need-returns-4
 unfolding answers.reads answers.numberOf
 returns-4 c = shuffle-full _ _ _ _ _ (checked-sound _ _ _ (c .before .before .before .before .before .before .before .before .before .before .before .check .ensures) (c .before .before .before .before .before .before .before .before .before .enum-told .given .1)) (omega arith) (c .before .before .before .before .shuffled .ensures .0) (c .before .before .before .before .shuffled .ensures .1)

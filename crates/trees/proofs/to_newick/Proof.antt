@@ -15,50 +15,40 @@ use Rattle.texts.proofs.write_tree.Reads as write-tree-reads
 use Rattle.trees.proofs.check.Reads as check-reads
 use Rattle.trees.proofs.refuse.Reads as refuse-reads
 
--- src/lib.rt:96:11
 check-requires : tie.Need-check-requires
 check-requires c κs = search needs
 
--- src/lib.rt:97:25
 enum-known-why : tie.Need-enum-known-why
 enum-known-why c = search needs
 
--- src/lib.rt:99:45
 enum-told : tie.Need-enum-told
 enum-told c = search needs
 
--- src/lib.rt:99:17
 text-length-requires : tie.Need-text-length-requires
 text-length-requires c κs = let S = checked-sound _ _ _ (c .before .before .check .ensures) (c .enum-told .given .1) in
     (S .valid .some-leaf, S .small)
 
--- src/lib.rt:101:17
 refuse-requires : tie.Need-refuse-requires
 refuse-requires c κs = search needs
 
--- src/lib.rt:101:17
 returns : tie.Need-returns
 unfolding answers.reads answers.numberOf
 returns c = let S = checked-sound _ _ _ (c .before .before .before .before .before .check .ensures) (c .before .before .before .enum-told .given .1) in
     let M = short-room _ _ _ _ _ _ (text-made _ S) (text-count _ S ∙ sym (c .before .before .text-length .ensures)) (c .before .if1 .taken) (c .refuse .ensures) in
     (M .outcome, M .buffer)
 
--- src/lib.rt:103:13
 write-tree-requires : tie.Need-write-tree-requires
 write-tree-requires c κs = let S = checked-sound _ _ _ (c .before .before .before .before .before .check .ensures) (c .before .before .before .enum-told .given .1) in
     (S .valid, S .small, rw (c .before .before .text-length .ensures) at (c .before .if1 .left))
 
--- src/lib.rt:92:1
 returns-2 : tie.Need-returns-2
 unfolding calls.toText
 returns-2 c = let A = alike _ _ _ (c .before .before .before .check .ensures) (c .before .why .given .1) in
     (refused-alike _ _ _ _ A, kept-alike _ _ _ _ _ A)
 
--- src/lib.rt:92:1
 same-length : tie.Need-same-length
 same-length c = search needs
 
--- src/lib.rt:92:1
 returns-3 : tie.Need-returns-3
 unfolding answers.reads answers.numberOf
 returns-3 c = let S = checked-sound _ _ _ (c .before .before .before .before .before .before .before .before .check .ensures) (c .before .before .before .before .before .before .enum-told .given .1) in

@@ -13,53 +13,42 @@ use Rattle.table.proofs.write_table.Reads as write-table-reads
 use Rattle.trees.proofs.check.Reads as check-reads
 use Rattle.trees.proofs.refuse.Reads as refuse-reads
 
--- src/lib.rt:35:11
 check-requires : tie.Need-check-requires
 check-requires c κs = search needs
 
--- src/lib.rt:36:25
 enum-known-why : tie.Need-enum-known-why
 enum-known-why c = search needs
 
--- src/lib.rt:38:31
 enum-told : tie.Need-enum-told
 enum-told c = search needs
 
--- src/lib.rt:38:31
 sub-needed : tie.Need-sub-needed
 sub-needed c = omega (arith, checked-sound _ _ _ (c .before .before .check .ensures) (c .enum-told .given .1) .valid .some-leaf)
 
--- src/lib.rt:38:26
 mul-needed : tie.Need-mul-needed
 mul-needed c = search needs
 
--- src/lib.rt:40:17
 refuse-requires : tie.Need-refuse-requires
 refuse-requires c κs = search needs
 
--- src/lib.rt:40:17
 returns : tie.Need-returns
 unfolding answers.reads answers.numberOf
 returns c = let S = checked-sound _ _ _ (c .before .before .before .before .check .ensures) (c .before .before .enum-told .given .1) in
     let M = short-room _ _ _ _ _ _ (table-made _ S) (table-count _ S) (c .before .if1 .taken) (c .refuse .ensures) in
     (M .outcome, M .buffer)
 
--- src/lib.rt:42:13
 write-table-requires : tie.Need-write-table-requires
 write-table-requires c κs = let S = checked-sound _ _ _ (c .before .before .before .before .check .ensures) (c .before .before .enum-told .given .1) in
     (S .valid, S .small, c .before .if1 .left)
 
--- src/lib.rt:31:1
 returns-2 : tie.Need-returns-2
 unfolding calls.toTable
 returns-2 c = let A = alike _ _ _ (c .before .before .before .check .ensures) (c .before .why .given .1) in
     (refused-alike _ _ _ _ A, kept-alike _ _ _ _ _ A)
 
--- src/lib.rt:31:1
 same-length : tie.Need-same-length
 same-length c = search needs
 
--- src/lib.rt:31:1
 returns-3 : tie.Need-returns-3
 unfolding answers.reads answers.numberOf
 returns-3 c = let S = checked-sound _ _ _ (c .before .before .before .before .before .before .before .check .ensures) (c .before .before .before .before .before .enum-told .given .1) in

@@ -17,91 +17,71 @@ use Rattle.trees.proofs.refuse.Reads as refuse-reads
 use Rattle.unpacking.proofs.entries_of.Reads as entries-of-reads
 use Rattle.vector.proofs.copy_out.Reads as copy-out-reads
 
--- src/lib.rt:73:9
 refuse-requires : tie.Need-refuse-requires
 refuse-requires c κs = search needs
 
--- src/lib.rt:73:9
 returns : tie.Need-returns
 unfolding answers.reads answers.numberOf
 returns c = let M = refused-early _ _ _ _ _ _ (under-two-bytes _ (c .before .if1 .taken)) (c .refuse .ensures) in
     (M .outcome, M .buffer)
 
--- src/lib.rt:75:9
 leaf-count-requires : tie.Need-leaf-count-requires
 leaf-count-requires c κs = search needs
 
--- src/lib.rt:77:9
 refuse-requires-2 : tie.Need-refuse-requires-2
 refuse-requires-2 c κs = search needs
 
--- src/lib.rt:77:9
 returns-2 : tie.Need-returns-2
 unfolding answers.reads answers.numberOf
 returns-2 c = let M = refused-early _ _ _ _ _ _ (no-leaf-record _ _ (c .before .before .before .if1 .left) (c .before .before .leaf-count .ensures) (c .before .if2 .taken)) (c .refuse2 .ensures) in
     (M .outcome, M .buffer)
 
--- src/lib.rt:80:9
 refuse-requires-3 : tie.Need-refuse-requires-3
 refuse-requires-3 c κs = search needs
 
--- src/lib.rt:80:9
 returns-3 : tie.Need-returns-3
 unfolding answers.reads answers.numberOf
 returns-3 c = let M = refused-early _ _ _ _ _ _ (many-leaf-record _ _ (c .before .before .before .before .if1 .left) (c .before .before .before .leaf-count .ensures) (c .before .if3 .taken)) (c .refuse3 .ensures) in
     (M .outcome, M .buffer)
 
--- src/lib.rt:82:9
 record-length-requires : tie.Need-record-length-requires
 record-length-requires c κs = search needs
 
--- src/lib.rt:84:9
 refuse-requires-4 : tie.Need-refuse-requires-4
 refuse-requires-4 c κs = search needs
 
--- src/lib.rt:84:9
 returns-4 : tie.Need-returns-4
 unfolding answers.reads answers.numberOf
 returns-4 c = let M = refused-early _ _ _ _ _ _ (length-fails _ _ _ (c .before .before .before .before .before .before .if1 .left) (c .before .before .before .before .before .leaf-count .ensures) (c .before .before .before .before .if2 .left) (c .before .before .before .if3 .left) (c .before .before .record-length .ensures) (c .before .if4 .taken)) (c .refuse4 .ensures) in
     (M .outcome, M .buffer)
 
--- src/lib.rt:87:39
 slice-aggregate-entries-of : tie.Need-slice-aggregate-entries-of
 slice-aggregate-entries-of c = search needs
 
--- src/lib.rt:87:11
 entries-of-requires : tie.Need-entries-of-requires
 entries-of-requires c κs = (headed-of _ _ _ (c .before .before .before .before .before .before .if1 .left) (c .before .before .before .before .before .leaf-count .ensures) (c .before .before .before .before .if2 .left) (c .before .before .before .if3 .left) (c .before .before .record-length .ensures) (c .before .if4 .left), refl)
 
--- src/lib.rt:88:21
 enum-known-i : tie.Need-enum-known-i
 enum-known-i c = search needs
 
--- src/lib.rt:88:27
 refuse-requires-5 : tie.Need-refuse-requires-5
 refuse-requires-5 c κs = search needs
 
--- src/lib.rt:89:33
 enum-told : tie.Need-enum-told
 enum-told c = search needs
 
--- src/lib.rt:89:48
 sub-refuse : tie.Need-sub-refuse
 sub-refuse c = omega (arith, some-byte _ _ (c .before .before .before .before .before .before .record-length .ensures))
 
--- src/lib.rt:89:26
 refuse-requires-6 : tie.Need-refuse-requires-6
 refuse-requires-6 c κs = search needs
 
--- src/lib.rt:91:16
 enum-told-2 : tie.Need-enum-told-2
 enum-told-2 c = search needs
 
--- src/lib.rt:92:17
 refuse-requires-7 : tie.Need-refuse-requires-7
 refuse-requires-7 c κs = search needs
 
--- src/lib.rt:92:17
 returns-5 : tie.Need-returns-5
 unfolding answers.reads answers.numberOf
 returns-5 c = let H = headed-of _ _ _ (c .before .before .before .before .before .before .before .before .before .before .before .before .if1 .left) (c .before .before .before .before .before .before .before .before .before .before .before .leaf-count .ensures) (c .before .before .before .before .before .before .before .before .before .before .if2 .left) (c .before .before .before .before .before .before .before .before .before .if3 .left) (c .before .before .before .before .before .before .before .before .record-length .ensures) (c .before .before .before .before .before .before .before .if4 .left) in
@@ -109,15 +89,12 @@ returns-5 c = let H = headed-of _ _ _ (c .before .before .before .before .before
     let M = short-room _ _ _ _ _ _ (record-accepted _ _ H (h .1) (h .2)) (length-entries _ _) (c .before .if5 .taken) (c .refuse7 .ensures) in
     (M .outcome, M .buffer)
 
--- src/lib.rt:94:30
 slice-aggregate-copy-out : tie.Need-slice-aggregate-copy-out
 slice-aggregate-copy-out c = search needs
 
--- src/lib.rt:94:13
 copy-out-requires : tie.Need-copy-out-requires
 copy-out-requires c κs = search needs
 
--- src/lib.rt:68:1
 returns-6 : tie.Need-returns-6
 unfolding answers.reads answers.numberOf
 returns-6 c = let H = headed-of _ _ _ (c .before .before .before .before .before .before .before .before .before .before .before .before .if1 .left) (c .before .before .before .before .before .before .before .before .before .before .before .leaf-count .ensures) (c .before .before .before .before .before .before .before .before .before .before .if2 .left) (c .before .before .before .before .before .before .before .before .before .if3 .left) (c .before .before .before .before .before .before .before .before .record-length .ensures) (c .before .before .before .before .before .before .before .if4 .left) in
@@ -125,7 +102,6 @@ returns-6 c = let H = headed-of _ _ _ (c .before .before .before .before .before
     let M = refused-early _ _ _ _ _ _ (entry-refused _ _ _ H h) (c .refuse5 .ensures) in
     (M .outcome, M .buffer)
 
--- src/lib.rt:68:1
 returns-7 : tie.Need-returns-7
 unfolding answers.reads answers.numberOf
 returns-7 c = let H = headed-of _ _ _ (c .before .before .before .before .before .before .before .before .before .before .before .if1 .left) (c .before .before .before .before .before .before .before .before .before .before .leaf-count .ensures) (c .before .before .before .before .before .before .before .before .before .if2 .left) (c .before .before .before .before .before .before .before .before .if3 .left) (c .before .before .before .before .before .before .before .record-length .ensures) (c .before .before .before .before .before .before .if4 .left) in
@@ -133,11 +109,9 @@ returns-7 c = let H = headed-of _ _ _ (c .before .before .before .before .before
     let M = refused-early _ _ _ _ _ _ (padding-refused _ _ H (h .0) (h .1)) (rw (← c .before .before .before .before .before .before .if4 .left) at (c .refuse6 .ensures)) in
     (M .outcome, M .buffer)
 
--- src/lib.rt:68:1
 same-length : tie.Need-same-length
 same-length c = search needs
 
--- src/lib.rt:68:1
 returns-8 : tie.Need-returns-8
 unfolding answers.reads answers.numberOf
 returns-8 c = let H = headed-of _ _ _ (c .before .before .before .before .before .before .before .before .before .before .before .before .before .before .before .before .if1 .left) (c .before .before .before .before .before .before .before .before .before .before .before .before .before .before .before .leaf-count .ensures) (c .before .before .before .before .before .before .before .before .before .before .before .before .before .before .if2 .left) (c .before .before .before .before .before .before .before .before .before .before .before .before .before .if3 .left) (c .before .before .before .before .before .before .before .before .before .before .before .before .record-length .ensures) (c .before .before .before .before .before .before .before .before .before .before .before .if4 .left) in

@@ -7,15 +7,12 @@ use Rattle.unpacking.proofs.first_fault_of.Reads as reads
 use Rattle.unpacking.proofs.first_fault_of.Lts as lts
 use Rattle.vector.proofs.first_fault.Reads as first-fault-reads
 
--- src/lib.rt:22:25
 slice-aggregate-first-fault : tie.Need-slice-aggregate-first-fault
 slice-aggregate-first-fault c = simp length-take (omega arith)
 
--- src/lib.rt:22:5
 first-fault-requires : tie.Need-first-fault-requires
 first-fault-requires c κs = simp length-take (omega arith)
 
--- src/lib.rt:18:1
 returns : tie.Need-returns
 returns c = search needs
 

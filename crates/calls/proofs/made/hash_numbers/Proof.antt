@@ -17,51 +17,39 @@ Inv-loop xs h₀ k₀ h k = Unit {0}
 abbrev μ-loop : tie.MeasureT-loop
 μ-loop xs h₀ k₀ h k = length xs - k
 
--- src/made.rt:61:5
 loop-holds : tie.Need-loop-holds Inv-loop μ-loop
 loop-holds c = search needs
 
--- src/made.rt:62:17
 mul-x : tie.Need-mul-x Inv-loop μ-loop
 mul-x c = search needs
 
--- src/made.rt:62:17
 shared-slice-read-x : tie.Need-shared-slice-read-x Inv-loop μ-loop
 shared-slice-read-x c = search needs
 
--- src/made.rt:63:26
 low-requires : tie.Need-low-requires Inv-loop μ-loop
 low-requires c κs = search needs
 
--- src/made.rt:63:18
 more-requires : tie.Need-more-requires Inv-loop μ-loop
 more-requires c κs = search needs
 
--- src/made.rt:63:35
 high-requires : tie.Need-high-requires Inv-loop μ-loop
 high-requires c κs = search needs
 
--- src/made.rt:63:9
 more-requires-2 : tie.Need-more-requires-2 Inv-loop μ-loop
 more-requires-2 c κs = search needs
 
--- src/made.rt:64:9
 add-k : tie.Need-add-k Inv-loop μ-loop
 add-k c = search needs
 
--- src/made.rt:61:5
 loop-less : tie.Need-loop-less Inv-loop μ-loop
 loop-less c = search needs
 
--- src/made.rt:61:5
 loop-again : tie.Need-loop-again Inv-loop μ-loop
 loop-again c = search needs
 
--- src/made.rt:66:5
 hash-requires : tie.Need-hash-requires Inv-loop μ-loop
 hash-requires c κs = search needs
 
--- src/made.rt:58:1
 returns : tie.Need-returns Inv-loop μ-loop
 returns c = search needs
 

@@ -8,31 +8,24 @@ use Rattle.calls.proofs.stream.bytes.Lts as lts
 use Rattle.calls.proofs.stream.length.Reads as length-reads
 use Rattle.calls.proofs.stream.read.Reads as read-reads
 
--- src/stream.rt:62:9
 length-requires : tie.Need-length-requires
 length-requires c κs = search needs
 
--- src/stream.rt:64:9
 returns : tie.Need-returns
 returns c = search needs
 
--- src/stream.rt:69:20
 slice-relend-prefix-read : tie.Need-slice-relend-prefix-read
 slice-relend-prefix-read c = search needs
 
--- src/stream.rt:69:20
 slice-aggregate-read : tie.Need-slice-aggregate-read
 slice-aggregate-read c = front _ _ (c .before .if1 .left)
 
--- src/stream.rt:69:9
 read-requires : tie.Need-read-requires
 read-requires c κs = search needs
 
--- src/stream.rt:59:1
 same-length : tie.Need-same-length
 same-length c = search needs
 
--- src/stream.rt:59:1
 returns-2 : tie.Need-returns-2
 returns-2 c = front-counts _ (c .before .before .read .last .0) _ (c .before .before .before .before .if1 .left) (c .before .before .read .kept .0)
 

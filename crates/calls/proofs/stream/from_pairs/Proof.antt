@@ -15,59 +15,45 @@ Inv-loop pairs xs₀ k₀ xs k = (length xs ≡ length xs₀) × (length xs₀ *
 abbrev μ-loop : tie.MeasureT-loop
 μ-loop pairs xs₀ k₀ xs k = length xs₀ - k
 
--- src/stream.rt:118:5
 loop-holds : tie.Need-loop-holds Inv-loop μ-loop
 loop-holds c = search needs
 
--- src/stream.rt:119:30
 mul-number : tie.Need-mul-number Inv-loop μ-loop
 mul-number c = search needs
 
--- src/stream.rt:119:24
 shared-slice-read-number : tie.Need-shared-slice-read-number Inv-loop μ-loop
 shared-slice-read-number c = search needs
 
--- src/stream.rt:119:44
 mul-number-2 : tie.Need-mul-number-2 Inv-loop μ-loop
 mul-number-2 c = search needs
 
--- src/stream.rt:119:44
 add-number : tie.Need-add-number Inv-loop μ-loop
 add-number c = search needs
 
--- src/stream.rt:119:38
 shared-slice-read-number-2 : tie.Need-shared-slice-read-number-2 Inv-loop μ-loop
 shared-slice-read-number-2 c = search needs
 
--- src/stream.rt:119:17
 number-requires : tie.Need-number-requires Inv-loop μ-loop
 number-requires c κs = search needs
 
--- src/stream.rt:119:9
 mul-xs : tie.Need-mul-xs Inv-loop μ-loop
 mul-xs c = search needs
 
--- src/stream.rt:119:9
 slice-write-xs : tie.Need-slice-write-xs Inv-loop μ-loop
 slice-write-xs c = search needs
 
--- src/stream.rt:120:9
 add-k : tie.Need-add-k Inv-loop μ-loop
 add-k c = search needs
 
--- src/stream.rt:118:5
 loop-less : tie.Need-loop-less Inv-loop μ-loop
 loop-less c = search needs
 
--- src/stream.rt:118:5
 loop-again : tie.Need-loop-again Inv-loop μ-loop
 loop-again c = simp length-set (omega arith, omega arith)
 
--- src/stream.rt:114:1
 same-length : tie.Need-same-length Inv-loop μ-loop
 same-length c = c .before .loop .inv .0
 
--- src/stream.rt:114:1
 returns : tie.Need-returns Inv-loop μ-loop
 returns c = search needs
 

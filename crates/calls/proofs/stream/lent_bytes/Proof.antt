@@ -8,31 +8,24 @@ use Rattle.calls.proofs.stream.lent_bytes.Lts as lts
 use Rattle.calls.proofs.stream.fill_bytes.Reads as fill-bytes-reads
 use Rattle.calls.proofs.stream.length.Reads as length-reads
 
--- src/stream.rt:146:9
 length-requires : tie.Need-length-requires
 length-requires c κs = search needs
 
--- src/stream.rt:148:9
 returns : tie.Need-returns
 returns c = search needs
 
--- src/stream.rt:153:26
 slice-relend-prefix-fill-bytes : tie.Need-slice-relend-prefix-fill-bytes
 slice-relend-prefix-fill-bytes c = search needs
 
--- src/stream.rt:153:26
 slice-aggregate-fill-bytes : tie.Need-slice-aggregate-fill-bytes
 slice-aggregate-fill-bytes c = front _ _ (c .before .if1 .left)
 
--- src/stream.rt:153:9
 fill-bytes-requires : tie.Need-fill-bytes-requires
 fill-bytes-requires c κs = search needs
 
--- src/stream.rt:143:1
 same-length : tie.Need-same-length
 same-length c = search needs
 
--- src/stream.rt:143:1
 returns-2 : tie.Need-returns-2
 returns-2 c = front-counts _ (c .before .before .fill-bytes .last .0) _ (c .before .before .before .before .if1 .left) (c .before .before .fill-bytes .kept .0)
 

@@ -8,31 +8,24 @@ use Rattle.calls.proofs.stream.lent_numbers.Lts as lts
 use Rattle.calls.proofs.stream.fill_numbers.Reads as fill-numbers-reads
 use Rattle.calls.proofs.stream.length.Reads as length-reads
 
--- src/stream.rt:128:9
 length-requires : tie.Need-length-requires
 length-requires c κs = search needs
 
--- src/stream.rt:130:9
 returns : tie.Need-returns
 returns c = search needs
 
--- src/stream.rt:135:28
 slice-relend-prefix-fill-numbers : tie.Need-slice-relend-prefix-fill-numbers
 slice-relend-prefix-fill-numbers c = search needs
 
--- src/stream.rt:135:28
 slice-aggregate-fill-numbers : tie.Need-slice-aggregate-fill-numbers
 slice-aggregate-fill-numbers c = front _ _ (c .before .if1 .left)
 
--- src/stream.rt:135:9
 fill-numbers-requires : tie.Need-fill-numbers-requires
 fill-numbers-requires c κs = search needs
 
--- src/stream.rt:125:1
 same-length : tie.Need-same-length
 same-length c = search needs
 
--- src/stream.rt:125:1
 returns-2 : tie.Need-returns-2
 returns-2 c = front-counts _ (c .before .before .fill-numbers .last .0) _ (c .before .before .before .before .if1 .left) (c .before .before .fill-numbers .kept .0)
 

@@ -8,31 +8,24 @@ use Rattle.calls.proofs.stream.numbers.Lts as lts
 use Rattle.calls.proofs.stream.length.Reads as length-reads
 use Rattle.calls.proofs.stream.read_numbers.Reads as read-numbers-reads
 
--- src/stream.rt:80:9
 length-requires : tie.Need-length-requires
 length-requires c κs = search needs
 
--- src/stream.rt:82:9
 returns : tie.Need-returns
 returns c = search needs
 
--- src/stream.rt:87:28
 slice-relend-prefix-read-numbers : tie.Need-slice-relend-prefix-read-numbers
 slice-relend-prefix-read-numbers c = search needs
 
--- src/stream.rt:87:28
 slice-aggregate-read-numbers : tie.Need-slice-aggregate-read-numbers
 slice-aggregate-read-numbers c = front _ _ (c .before .if1 .left)
 
--- src/stream.rt:87:9
 read-numbers-requires : tie.Need-read-numbers-requires
 read-numbers-requires c κs = search needs
 
--- src/stream.rt:77:1
 same-length : tie.Need-same-length
 same-length c = search needs
 
--- src/stream.rt:77:1
 returns-2 : tie.Need-returns-2
 returns-2 c = front-counts _ (c .before .before .read-numbers .last .0) _ (c .before .before .before .before .if1 .left) (c .before .before .read-numbers .kept .0)
 

@@ -8,39 +8,30 @@ use Rattle.calls.proofs.stream.read_pairs.Lts as lts
 use Rattle.calls.proofs.stream.from_pairs.Reads as from-pairs-reads
 use Rattle.calls.proofs.stream.read.Reads as read-reads
 
--- src/stream.rt:102:9
 returns : tie.Need-returns
 returns c = search needs
 
--- src/stream.rt:104:33
 mul-read : tie.Need-mul-read
 mul-read c = search needs
 
--- src/stream.rt:104:20
 slice-relend-prefix-read : tie.Need-slice-relend-prefix-read
 slice-relend-prefix-read c = search needs
 
--- src/stream.rt:104:20
 slice-aggregate-read : tie.Need-slice-aggregate-read
 slice-aggregate-read c = front _ _ (omega arith)
 
--- src/stream.rt:104:9
 read-requires : tie.Need-read-requires
 read-requires c κs = search needs
 
--- src/stream.rt:105:5
 from-pairs-requires : tie.Need-from-pairs-requires
 from-pairs-requires c κs = search needs
 
--- src/stream.rt:99:1
 same-length : tie.Need-same-length
 same-length c = search needs
 
--- src/stream.rt:99:1
 same-length-2 : tie.Need-same-length-2
 same-length-2 c = search needs
 
--- src/stream.rt:99:1
 returns-2 : tie.Need-returns-2
 returns-2 c = search needs
 

@@ -15,39 +15,30 @@ Inv-loop first xs₀ x₀ k₀ xs x k = (length xs ≡ length xs₀) × (k ≤ l
 abbrev μ-loop : tie.MeasureT-loop
 μ-loop first xs₀ x₀ k₀ xs x k = length xs₀ - k
 
--- src/stream.rt:177:5
 loop-holds : tie.Need-loop-holds Inv-loop μ-loop
 loop-holds c = search needs
 
--- src/stream.rt:178:9
 mul-xs : tie.Need-mul-xs Inv-loop μ-loop
 mul-xs c = search needs
 
--- src/stream.rt:178:9
 slice-write-xs : tie.Need-slice-write-xs Inv-loop μ-loop
 slice-write-xs c = search needs
 
--- src/stream.rt:179:9
 wrapping-add-u16-requires : tie.Need-wrapping-add-u16-requires Inv-loop μ-loop
 wrapping-add-u16-requires c κs = search needs
 
--- src/stream.rt:180:9
 add-k : tie.Need-add-k Inv-loop μ-loop
 add-k c = search needs
 
--- src/stream.rt:177:5
 loop-less : tie.Need-loop-less Inv-loop μ-loop
 loop-less c = search needs
 
--- src/stream.rt:177:5
 loop-again : tie.Need-loop-again Inv-loop μ-loop
 loop-again c = simp length-set (omega arith, omega arith)
 
--- src/stream.rt:174:1
 same-length : tie.Need-same-length Inv-loop μ-loop
 same-length c = c .before .loop .inv .0
 
--- src/stream.rt:174:1
 returns : tie.Need-returns Inv-loop μ-loop
 returns c = search needs
 
