@@ -4,13 +4,13 @@
 use mathlib.Core.Path.{_≡_, refl, sym, ap, ap₂, _∙_}
 use mathlib.Core.Bool.{Bool, true, false, _||_, false≢true}
 use mathlib.Core.List.{List}
-use Prim.Native.Nat.{ℕ, zero, suc, _+_, _-_, _*_, _/_, _%_, _≤_, _<_}
+use Prim.Native.Nat.{ℕ, zero, suc, _+_, _*_, _/_, _%_, _≤_, _<_}
 use native.Mathlib.Nat.{add-zero, add-suc, zero-add}
 use native.Mathlib.Omega.{arith}
 use lib.Dec.{eqb, ltb}
 use lib.ListN.{length, getD, replicate, length-replicate, getD-replicate}
 use borrow.Author.Tests.{eqb-true, eqb-false, ltb-true, ltb-false, lt-ltb, le-ltb}
-use Rattle.rows.specs.Count.{bit, count, count-cong, count-none, count-or}
+use Rattle.rows.specs.Count.{bit, count, count-none, count-or}
 use Rattle.ranks.specs.Steps.{Added}
 
 -- blocks has how many members are below each block, names how many of its block are below each name
@@ -58,16 +58,16 @@ count-also f i x h = count-or f (λ y. eqb y i) x apart ∙ ap (λ (n : ℕ). co
     apart y p q = false≢true (sym h ∙ ap f (sym (eqb-true y i q)) ∙ p)
 
 -- ---- the ranks
-none : (n m : ℕ) → n ≡ 16 → m ≡ 1024 → Ranks (λ y. false) (replicate n 0) (replicate m 0)
-none n m d e = record {
-  blocks-long = length-replicate {A = ℕ} n 0 ∙ d;
-  names-long = length-replicate {A = ℕ} m 0 ∙ e;
-  before = λ w l. getD-replicate {A = ℕ} n w 0 0 (omega arith) ∙ sym (count-none (λ y. false) (64 * w) (λ y k. refl));
-  within = λ x l. omega (arith, getD-replicate {A = ℕ} m x 0 0 (omega arith), count-none (λ y. false) (64 * (x / 64)) (λ y k. refl), count-none (λ y. false) x (λ y k. refl));
-}
-
 pub ranks-none : Ranks (λ y. false) (replicate 16 0) (replicate 1024 0)
-ranks-none = none 16 1024 refl refl
+ranks-none = record {
+  blocks-long = length-replicate {A = ℕ} 16 0;
+  names-long = length-replicate {A = ℕ} 1024 0;
+  before = λ w l. getD-replicate {A = ℕ} 16 w 0 0 l ∙ sym (none (64 * w));
+  within = λ x l. omega (arith, getD-replicate {A = ℕ} 1024 x 0 0 l, none (64 * (x / 64)), none x);
+}
+  where
+    none : (x : ℕ) → count (λ y. false) x ≡ 0
+    none x = count-none (λ y. false) x (λ y k. refl)
 
 pub rank-is : {f : ℕ → Bool} {blocks names : List ℕ} {x : ℕ} → Ranks f blocks names → x < 1024 → getD blocks (x / 64) 0 + getD names x 0 ≡ count f x
 rank-is {x = x} R h = omega (arith, R .before (x / 64) (omega arith), R .within x h)

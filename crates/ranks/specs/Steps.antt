@@ -1,14 +1,14 @@
 -- Adding 1 to every count above a place without a test for each: the steps, which are added to the counts, and the loops over both.
 -- Main definitions: Steps, Raised, Added. Main results: raised-next, step-is, added-next.
-use mathlib.Core.Path.{_≡_, refl, sym, ap, ap₂, _∙_}
+use mathlib.Core.Path.{_≡_, refl, ap₂, _∙_}
 use mathlib.Core.Bool.{Bool, true, false}
 use mathlib.Core.List.{List}
-use Prim.Native.Nat.{ℕ, _+_, _-_, _*_, _≤_, _<_}
+use Prim.Native.Nat.{ℕ, _+_, _*_, _≤_, _<_}
 use native.Mathlib.Omega.{arith}
 use lib.Dec.{eqb, ltb}
 use lib.ListN.{length, getD, set, length-set, replicate, length-replicate, getD-replicate}
 use lib.Seq.{getD-set-same, getD-set-other}
-use borrow.Author.Tests.{eqb-true, eqb-false, ltb-true, ltb-false, lt-ltb, le-ltb}
+use borrow.Author.Tests.{eqb-true, eqb-false, ltb-true, ltb-false, le-ltb}
 use Rattle.rows.specs.Count.{bit}
 
 -- ---- the steps
@@ -43,14 +43,14 @@ raised-next {width} {k} {steps} R w h = record {
 pub raised-end : {width k : ℕ} {steps : List ℕ} → Raised width steps k → 2 * width ≤ k → Steps width steps
 raised-end R h = record { long = R .long; low = R .low; high = λ x a b. R .high x a (omega arith) }
 
-pub step-le : {width : ℕ} {steps : List ℕ} → Steps width steps → (k : ℕ) → k < 2 * width → getD steps k 0 ≤ 1
+step-le : {width : ℕ} {steps : List ℕ} → Steps width steps → (k : ℕ) → k < 2 * width → getD steps k 0 ≤ 1
 step-le {width} {steps} S k h = go (ltb k width) refl
   where
     go : (b : Bool) → ltb k width ≡ b → getD steps k 0 ≤ 1
     go true e = omega (arith, S .low k (ltb-true k width e))
     go false e = omega (arith, S .high k (ltb-false k width e) h)
 
--- lent from where place i meets the last 0, the steps are 1 just above i
+-- read so that i meets the last 0, the steps are 1 above i and 0 elsewhere
 pub step-is : {width k : ℕ} {steps : List ℕ} (i x : ℕ) → Steps width steps → k < 2 * width → k + i + 1 ≡ width + x → getD steps k 0 ≡ bit (ltb i x)
 unfolding bit
 step-is {width} {k} {steps} i x S h e = go (ltb i x) refl
@@ -84,6 +84,11 @@ added-next {i} {x} {y} {s} {counts₀} {counts} A h e d = record {
         (getD-set-same counts x (getD counts x 0 + s) 0 (omega (arith, A .same))
         ∙ ap₂ (λ (m n : ℕ). m + n) (A .ahead x (omega arith)) e)
     go z l false q = let p = eqb-false z x q in getD-set-other counts x z (getD counts x 0 + s) 0 p ∙ A .past z (omega arith)
+
+-- the next sum stays below a bound
+pub added-fits : {width i x k m : ℕ} {steps counts₀ counts : List ℕ} → Added i counts₀ counts x → Steps width steps → k < 2 * width → getD counts₀ x 0 + 1 < m
+    → getD counts x 0 + getD steps k 0 < m
+added-fits {x = x} {k = k} A S h l = omega (arith, A .ahead x (omega arith), step-le S k h)
 
 pub added-end : {i x y : ℕ} {counts₀ counts : List ℕ} → Added i counts₀ counts x → x ≡ y → Added i counts₀ counts y
 added-end A e = rw (← e) A

@@ -2,7 +2,7 @@
 //
 // The names stand in sixteen blocks of 64. blocks[w] is how many members are below block w, names[x] how many of x's block are below x.
 // A new member i adds 1 to each later block and to each later name of its block. No test stands in these two loops, so that they become
-// vector code: 0s and then 1s are added from where the last 0 meets i.
+// vector code: 0s and then 1s are added, from where the last 0 meets i.
 
 ghost use mathlib.Core.Path.{_≡_};
 ghost use mathlib.Core.Bool.{Bool, false};
@@ -12,13 +12,19 @@ ghost use Rattle.rows.specs.Count.{count};
 ghost use Rattle.ranks.specs.Steps.{Steps, Added};
 ghost use Rattle.ranks.specs.Ranks.{Ranks, also};
 
+fn sum(block: u16, name: u8) -> usize
+    ensures { λ r. ⌜ r ≡ block + name ⌝ }
+{
+    block as usize + name as usize
+}
+
 /// How many members are below x.
 pub fn rank(blocks: &[u16], names: &[u8], x: usize) -> usize
     requires { ⌜ ((f : ℕ → Bool) × Ranks f (now blocks) (now names)) ⌝ }
     requires { ⌜ x < 1024 ⌝ }
     ensures { λ r. ⌜ ((f : ℕ → Bool) → Ranks f (now (blocks .entry)) (now (names .entry)) → r ≡ count f x) ⌝ }
 {
-    blocks[x / 64] as usize + names[x] as usize
+    sum(blocks[x / 64], names[x])
 }
 
 /// Sixteen times 0 and then sixteen times 1, for the blocks.

@@ -1,7 +1,7 @@
 -- `add_to_blocks` meets its contract. The invariant: the blocks below k have their new counts.
 use mathlib.Core.Path.{refl}
-use Prim.Native.Nat.{_+_, _-_, _≤_}
-use Rattle.ranks.specs.Steps.{Added, added-start, added-next, added-end, step-is, step-le}
+use Prim.Native.Nat.{_-_, _≤_}
+use Rattle.ranks.specs.Steps.{Added, added-start, added-next, added-fits, added-end, step-is}
 use native.Mathlib.Omega.{arith}
 use borrow.Author.Needs.{needs}
 use Rattle.ranks.proofs.add_to_blocks.Statement.{statement}
@@ -35,7 +35,7 @@ slice-read-blocks : tie.Need-slice-read-blocks Inv-loop μ-loop
 slice-read-blocks c = search needs
 
 add-blocks-2 : tie.Need-add-blocks-2 Inv-loop μ-loop
-add-blocks-2 c = omega (arith, c .before .before .before .loop .inv .1 .ahead (c .before .before .before .loop .k) (omega arith), c .before .before .before .before .pre .1 .0 (c .before .before .before .loop .k) (c .before .before .loop-test .taken), step-le (c .before .before .before .before .pre .1 .1) (15 - c .before .before .before .before .args .w + c .before .before .before .loop .k) (omega (arith, c .before .before .before .before .pre .0 .1, c .before .before .loop-test .taken)))
+add-blocks-2 c = record { fits = added-fits (c .before .before .before .loop .inv .1) (c .before .before .before .before .pre .1 .1) (omega (arith, c .before .before .before .before .pre .0 .1, c .before .before .loop-test .taken)) (omega (arith, c .before .before .before .before .pre .1 .0 (c .before .before .before .loop .k) (c .before .before .loop-test .taken))) }
 
 slice-write-blocks : tie.Need-slice-write-blocks Inv-loop μ-loop
 slice-write-blocks c = search needs

@@ -1,6 +1,6 @@
 -- `add_to_names` meets its contract. The invariant: the first k names of the block have their new counts.
-use Prim.Native.Nat.{_+_, _-_, _*_, _/_, _%_, _≤_}
-use Rattle.ranks.specs.Steps.{Added, added-start, added-next, added-end, step-is, step-le}
+use Prim.Native.Nat.{_+_, _-_, _*_, _/_, _≤_}
+use Rattle.ranks.specs.Steps.{Added, added-start, added-next, added-fits, added-end, step-is}
 use native.Mathlib.Omega.{arith}
 use borrow.Author.Needs.{needs}
 use Rattle.ranks.proofs.add_to_names.Statement.{statement}
@@ -34,7 +34,7 @@ slice-read-names : tie.Need-slice-read-names Inv-loop μ-loop
 slice-read-names c = search needs
 
 add-names-3 : tie.Need-add-names-3 Inv-loop μ-loop
-add-names-3 c = omega (arith, c .before .before .before .loop .inv .1 .ahead (64 * (c .before .before .before .before .args .i / 64) + c .before .before .before .loop .k) (omega arith), c .before .before .before .before .pre .1 .0 (64 * (c .before .before .before .before .args .i / 64) + c .before .before .before .loop .k) (omega (arith, c .before .before .before .before .pre .0 .1, c .before .before .loop-test .taken)), step-le (c .before .before .before .before .pre .1 .1) (63 - c .before .before .before .before .args .i % 64 + c .before .before .before .loop .k) (omega (arith, c .before .before .loop-test .taken)))
+add-names-3 c = record { fits = added-fits (c .before .before .before .loop .inv .1) (c .before .before .before .before .pre .1 .1) (omega (arith, c .before .before .loop-test .taken)) (omega (arith, c .before .before .before .before .pre .1 .0 (64 * (c .before .before .before .before .args .i / 64) + c .before .before .before .loop .k) (omega (arith, c .before .before .before .before .pre .0 .1, c .before .before .loop-test .taken)))) }
 
 slice-write-names : tie.Need-slice-write-names Inv-loop μ-loop
 slice-write-names c = search needs

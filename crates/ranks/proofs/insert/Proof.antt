@@ -1,4 +1,4 @@
--- `insert` meets its contract.
+-- `insert` meets its contract: i counts for each later block, and for each later name of its block.
 use Rattle.ranks.specs.Ranks.{block-le, name-le, ranks-also}
 use native.Mathlib.Omega.{arith}
 use borrow.Author.Needs.{needs}
