@@ -1,15 +1,15 @@
 -- Four fields of one width in one word: the last stands at the low end, and each shift by the width brings the one before it there.
--- Main results: four-values, four-lt, parts-lt.
+-- Main results: four-values, four-there, four-lt, parts-lt.
 use mathlib.Core.Path.{_≡_, sym, ap, _∙_}
 use mathlib.Core.List.{List}
 use Prim.Native.Nat.{ℕ, _+_, _-_, _*_, _/_, _%_, _<_, _≤_, _^_}
 use native.Mathlib.Nat.{div-one, le-trans}
 use native.Mathlib.Omega.{arith}
-use lib.ListN.{length, getD}
+use lib.ListN.{length, getD, set}
 use lib.Pow.{pow-mono, shr-shr}
 use Rattle.record_laws.specs.Number.{joined-lt}
 use Rattle.record_laws.specs.Window.{valueAt, wordAt, value-word}
-use Rattle.bits.specs.Four.{fourOf}
+use Rattle.bits.specs.Four.{fourRead, fourOf}
 
 module _ (s : List ℕ) (at w : ℕ) (b : (i : ℕ) → getD s i 0 < 256) (l : at / 8 + 8 ≤ length s) (f : w ≤ 14) where
   -- the word, with the last of four fields at the low end
@@ -35,6 +35,16 @@ module _ (s : List ℕ) (at w : ℕ) (b : (i : ℕ) → getD s i 0 < 256) (l : a
         sym (before (2 * w) w (omega arith)),
         sym (before (3 * w) 0 (omega arith) ∙ ap (λ (n : ℕ). n % 2 ^ w) (div-one last)),
       )
+
+  -- where the code has shifted and masked the word e, the four numbers are those of the fields
+  pub four-there : (out : List ℕ) (i : ℕ) {e p q r t : ℕ} → e ≡ wordAt 8 s (at / 8)
+      → p ≡ e / 2 ^ (64 - at % 8 - 4 * w) / 2 ^ w / 2 ^ w / 2 ^ w % 2 ^ w → q ≡ e / 2 ^ (64 - at % 8 - 4 * w) / 2 ^ w / 2 ^ w % 2 ^ w
+      → r ≡ e / 2 ^ (64 - at % 8 - 4 * w) / 2 ^ w % 2 ^ w → t ≡ e / 2 ^ (64 - at % 8 - 4 * w) % 2 ^ w
+      → set (set (set (set out i p) (i + 1) q) (i + 2) r) (i + 3) t ≡ fourRead s at w out i
+  unfolding fourRead
+  four-there out i {e} {p} {q} {r} {t} h a b c d =
+      let f = four-values in
+      rw (a, b, c, d, h, f .0, f .1, f .2, f .3)
 
 -- four numbers of w bits, one behind the other
 module _ (v : List ℕ) (i w : ℕ) (h : (j : ℕ) → i ≤ j → j < i + 4 → getD v j 0 < 2 ^ w) where

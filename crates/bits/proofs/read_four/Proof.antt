@@ -1,9 +1,8 @@
--- `bits::read_four` meets its contract: each field by the shifts and the mask (`four-values`).
+-- `bits::read_four` meets its contract: each field by the shifts and the mask (`four-there`).
 use native.Mathlib.Omega.{arith}
 use borrow.Author.Needs.{needs}
 use lib.ListN.{length-set}
-use Rattle.bits.specs.Four.{fourRead}
-use Rattle.bits.proofs.Four.{four-values}
+use Rattle.bits.proofs.Four.{four-there}
 use Rattle.bits.proofs.read_four.Statement.{statement}
 use Rattle.bits.proofs.read_four.Tie as tie
 
@@ -86,11 +85,10 @@ same-length : tie.Need-same-length
 same-length c = search needs
 
 returns : tie.Need-returns
-unfolding fourRead
 returns c =
     let a = c .before .before .before .before .before .before .before .args in
-    let f = four-values (a .s .now) (a .at) (a .width) (λ i. c .before .before .before .before .before .before .shared-slice-known .given i .fits) (omega arith) (omega arith) in
-    rw (c .low-bits4 .ensures, c .before .low-bits3 .ensures, c .before .before .low-bits2 .ensures, c .before .before .before .low-bits .ensures, c .before .before .before .before .eight-inside .ensures, f .0, f .1, f .2, f .3)
+    four-there (a .s .now) (a .at) (a .width) (λ i. c .before .before .before .before .before .before .shared-slice-known .given i .fits) (omega arith) (omega arith) (a .out .now) (a .i)
+    (c .before .before .before .before .eight-inside .ensures) (c .before .before .before .low-bits .ensures) (c .before .before .low-bits2 .ensures) (c .before .low-bits3 .ensures) (c .low-bits4 .ensures)
 
 pub read-four-spec : {M : Type 1} → statement M
 read-four-spec =
