@@ -13,8 +13,8 @@ use borrow.Author.Tests.{eqb-true, eqb-false, eq-eqb, ne-eqb, lt-ltb}
 use Rattle.rules.specs.Tree.{Tree, leaf, node, has, least, Distinct, Clusters}
 use Rattle.rules.specs.Table.{Row, nodesOf, tableTree}
 use Rattle.basics.specs.Bools.{or-false}
-use Rattle.clades.specs.Leaves.{has-left, has-right, has-cases, least-apart}
-use Rattle.rows.specs.Larger.{Pair, top-has, pair-has, pair-above, top-left, top-right}
+use Rattle.clades.specs.Leaves.{has-left, has-right, has-cases, least-has, least-apart}
+use Rattle.rows.specs.Larger.{Pair, lesser, top-has, pair-has, pair-above, top-left, top-right}
 use Rattle.rows.specs.Count.{last-or-before, count, count-pos, count-without}
 use Rattle.rows.specs.Forest.{namedAlso, namedIn, noded, RowOk, Forest, forest-start, forest-next, forest-end, named-snoc, nodes-snoc, named-no}
 use Rattle.rows.specs.Chains.{lowest, chain, Smaller, In, Bounded, in-left, chain-own, chain-other, chain-in, lowest-starts}
@@ -29,12 +29,14 @@ taken rs = namedIn (λ c. false) rs
 abbrev pub nodes : List Row → Clusters
 nodes rs = nodesOf rs leaf
 
--- what the arrays tell of node k, whose tree is t: its name, its key, the smaller names of its pairs, and the chains of its leaves
+-- what the arrays tell of node k, whose tree is t: its name, its key, the smaller names of its pairs, the chains of its leaves, and that
+-- its name, which is not yet in a chain, leads nowhere
 pub record Tells (k : ℕ) (t : Tree) (names lows small next last : List ℕ) : Type 0 where
   pub name : cell names k ≡ least t
   pub key : cell lows k ≡ lowest 1024 t
   pub smaller : Smaller (cell small) t
   pub held : (x : ℕ) → has t x ≡ true → Held (cell next) (cell last) x (chain 1024 t x)
+  pub loose : 1 ≤ least t → cell next (least t) ≡ 0
 
 -- the rows are added: the arrays tell of each node that no row has taken as a child
 pub record Built (n : ℕ) (rs : List Row) (names lows small next last : List ℕ) : Type 0 where
@@ -60,15 +62,16 @@ pub record Adds (n : ℕ) (rs : List Row) (p l r x y : ℕ) (names lows small ne
 
 -- no rows: every node is a leaf
 pub built-start : {n : ℕ} {names lows small next last : List ℕ} → n ≤ 1024 → 2 * n ≤ length names → 2 * n ≤ length lows → n ≤ length small → n ≤ length next → n ≤ length last
-    → ((k : ℕ) → k < n → cell names k ≡ k) → ((k : ℕ) → k < n → cell lows k ≡ 1024) → ((k : ℕ) → k < n → cell last k ≡ 0) → Built n [] names lows small next last
+    → ((k : ℕ) → k < n → cell names k ≡ k) → ((k : ℕ) → k < n → cell lows k ≡ 1024) → ((k : ℕ) → k < n → cell next k ≡ 0) → ((k : ℕ) → k < n → cell last k ≡ 0) → Built n [] names lows small next last
 unfolding namedIn nodesOf least lowest Smaller Held chain has
-built-start {n} few a b c d e named keyed none = record {
+built-start {n} few a b c d e named keyed ends none = record {
   forest = forest-start n;
   free = λ k h f. record {
     name = named k (omega arith);
     key = keyed k (omega arith);
     smaller = tt;
     held = λ x q. none x (omega (arith, eqb-true k x q));
+    loose = λ l. ends k (omega arith);
   };
   few = few;
   names-room = a;
@@ -194,19 +197,35 @@ module _ {n : ℕ} {rs : List Row} {p l r x y : ℕ} {names lows small next last
   J-not-new e = ⊎-elim (λ z. omega (arith, I-pos)) (λ q. old-not-new J (q .1) (sym e)) J-cases
 
   abbrev next′ : List ℕ
-  next′ = set (set next I 0) J I
+  next′ = set next J I
 
   abbrev last′ : List ℕ
   last′ = set last K I
 
-  next-new : cell next′ I ≡ 0
-  next-new = getD-set-other (set next I 0) J I I 0 J-not-new ∙ getD-set-same next I 0 0 (omega (arith, I-below, B .next-room))
-
   next-last : cell next′ J ≡ I
-  next-last = getD-set-same (set next I 0) J I 0 (omega (arith, J-below, B .next-room, length-set next I 0))
+  next-last = getD-set-same next J I 0 (omega (arith, J-below, B .next-room))
 
-  next-other : (y : ℕ) → y ≢ I → y ≢ J → cell next′ y ≡ cell next y
-  next-other y a b = getD-set-other (set next I 0) J y I 0 b ∙ getD-set-other next I y 0 0 a
+  next-other : (y : ℕ) → y ≢ J → cell next′ y ≡ cell next y
+  next-other y h = getD-set-other next J y I 0 h
+
+  -- the names of the two parts led nowhere: the larger one still does, and the smaller one
+  next-new : cell next′ I ≡ 0
+  next-new = next-other I J-not-new ∙ go (lesser (least L′) (least R′)) I-pos
+    where
+      go : ((S ≡ least L′) × (I ≡ least R′)) ⊎ ((S ≡ least R′) × (I ≡ least L′)) → 1 ≤ I → cell next I ≡ 0
+      go (inl q) h = rw (q .1) (right .loose (rw (q .1) at h))
+      go (inr q) h = rw (q .1) (left .loose (rw (q .1) at h))
+
+  next-smaller : 1 ≤ S → cell next′ S ≡ 0
+  next-smaller h = next-other S S-not-last ∙ go (lesser (least L′) (least R′)) h
+    where
+      S-not-last : S ≢ J
+      S-not-last e = ⊎-elim (λ z. omega arith)
+          (λ q. ⊎-elim (λ a. omega (arith, pair-above L′ J (F .once l (R .first)) a)) (λ a. omega (arith, pair-above R′ J (F .once r (R .second)) a)) (q .1)) J-cases
+
+      go : ((S ≡ least L′) × (I ≡ least R′)) ⊎ ((S ≡ least R′) × (I ≡ least L′)) → 1 ≤ S → cell next S ≡ 0
+      go (inl q) k = rw (q .0) (left .loose (rw (q .0) at k))
+      go (inr q) k = rw (q .0) (right .loose (rw (q .0) at k))
 
   last-new : cell last′ K ≡ I
   last-new = getD-set-same last K I 0 (omega (arith, K-below, B .last-room))
@@ -228,7 +247,7 @@ module _ {n : ℕ} {rs : List Row} {p l r x y : ℕ} {names lows small next last
       let o = old-chain K K-has in
       rw (chain-own 1024 L′ R′ K refl, o .1)
       (held-more (cell next) (cell last) (cell next′) (cell last′) K (o .0) I (o .2) I-pos last-new next-new (λ h. next-last)
-      (λ y i. next-other y (old-not-new y (o .3 y i))))
+      (λ y i. next-other y))
 
   other-held : (x : ℕ) → has (node L′ R′) x ≡ true → x ≢ K → Held (cell next′) (cell last′) x (chain 1024 (node L′ R′) x)
   unfolding lowest
@@ -236,7 +255,7 @@ module _ {n : ℕ} {rs : List Row} {p l r x y : ℕ} {names lows small next last
       let o = old-chain x e in
       rw (chain-other 1024 L′ R′ x d, o .1)
       (held-kept (cell next) (cell last) (cell next′) (cell last′) x (o .0) (last-other x d)
-      (λ y i. next-other y (old-not-new y (o .3 y i)) (not-last (o .0) (o .1) (o .3) y i)) (o .2))
+      (λ y i. next-other y (not-last (o .0) (o .1) (o .3) y i)) (o .2))
     where
       -- the last name of the key's chain is in no other
       not-last : (c : List ℕ) → chain 1024 L′ x ++ chain 1024 R′ x ≡ c → ((y : ℕ) → In y c → Pair L′ y ⊎ Pair R′ y) → (y : ℕ) → In y c → y ≢ J
@@ -278,6 +297,7 @@ module _ {n : ℕ} {rs : List Row} {p l r x y : ℕ} {names lows small next last
       smaller-cong (cell small) (cell small′) R′ (λ x a. small-other x (old-not-new x (inr a))) (right .smaller),
     );
     held = new-held;
+    loose = next-smaller;
   }
 
   -- a free node that the row does not take has none of the row's leaves
@@ -290,7 +310,8 @@ module _ {n : ℕ} {rs : List Row} {p l r x y : ℕ} {names lows small next last
         key = getD-set-other lows p k K 0 (omega arith) ∙ T .key;
         smaller = smaller-cong (cell small) (cell small′) (nodes rs k) (λ x a. small-other x (apart x (pair-has (nodes rs k) x a) I (top-has L′ R′))) (T .smaller);
         held = λ x q. held-kept (cell next) (cell last) (cell next′) (cell last′) x (chain 1024 (nodes rs k) x) (last-other x (apart x q K K-has))
-            (λ y i. next-other y (apart y (in-tree x y i) I (top-has L′ R′)) (not-last y (in-tree x y i) (positive x y i))) (T .held x q);
+            (λ y i. next-other y (not-last y (in-tree x y i) (positive x y i))) (T .held x q);
+        loose = λ a. next-other (least (nodes rs k)) (not-last (least (nodes rs k)) (least-has (nodes rs k)) a) ∙ T .loose a;
       }
     where
       apart : (x : ℕ) → has (nodes rs k) x ≡ true → (z : ℕ) → has (node L′ R′) z ≡ true → x ≢ z
@@ -344,7 +365,7 @@ module _ {n : ℕ} {rs : List Row} {p l r x y : ℕ} {names lows small next last
     names-room = omega (arith, length-set names p S, A .same, B .names-room);
     lows-room = omega (arith, length-set lows p K, B .lows-room);
     small-room = omega (arith, length-set small I S, B .small-room);
-    next-room = omega (arith, length-set next I 0, length-set (set next I 0) J I, B .next-room);
+    next-room = omega (arith, length-set next J I, B .next-room);
     last-room = omega (arith, length-set last K I, B .last-room);
   }
 
@@ -360,7 +381,7 @@ module _ {n : ℕ} {rs : List Row} {p l r x y : ℕ} {names lows small next last
     is-key : k ≡ K
     is-key = ek ∙ ap₂ min is-larger (ew ∙ ap₂ min (eu ∙ left .key) (ev ∙ right .key))
 
-    pub adds-room : (a < 1024) × (i < 1024) × (k < 1024) × (i < length small) × (i < length next) × (k < length last)
+    pub adds-room : (a < 1024) × (i < 1024) × (k < 1024) × (i < length small) × (k < length last)
     adds-room =
         let s : S < 1024 = omega (arith, I-below, B .few) in
         rw (is-smaller, is-larger, is-key) (
@@ -368,12 +389,11 @@ module _ {n : ℕ} {rs : List Row} {p l r x y : ℕ} {names lows small next last
           omega (arith, I-below, B .few),
           parts-bounded K K-has,
           omega (arith, I-below, B .small-room),
-          omega (arith, I-below, B .next-room),
           omega (arith, K-below, B .last-room),
         )
 
     pub adds-last : {j : ℕ} → j ≡ cell last k → j < length next
     adds-last {j} e = let z : j ≡ J = e ∙ ap (cell last) is-key in omega (arith, J-below, B .next-room)
 
-    pub built-next : {j : ℕ} → j ≡ cell last k → Built n (rs ++ ((l, r, p) ∷ [])) (set names p a) (set lows p k) (set small i a) (set (set next i 0) j i) (set last k i)
+    pub built-next : {j : ℕ} → j ≡ cell last k → Built n (rs ++ ((l, r, p) ∷ [])) (set names p a) (set lows p k) (set small i a) (set next j i) (set last k i)
     built-next {j} e = let z : j ≡ J = e ∙ ap (cell last) is-key in rw (is-smaller, is-larger, z, is-key) built′

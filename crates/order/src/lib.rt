@@ -132,7 +132,8 @@ pub fn greater(x: usize, y: usize) -> usize
 }
 
 /// Adds the row of node p with the children l and r, named x and y, to the arrays. names and lows have the name and the key of each node; a
-/// leaf has no pair, and its key is 1024. The pair goes to the end of its key's chain; next[0] belongs to no pair.
+/// leaf has no pair, and its key is 1024. The pair goes to the end of its key's chain: next[i] is still 0.
+/// next[0] belongs to no pair.
 pub fn add_pair(
     names: &mut [u16],
     lows: &mut [u16],
@@ -154,7 +155,6 @@ pub fn add_pair(
     let k = lesser(i, lesser(wide(lows[l]), wide(lows[r])));
     let j = wide(last[k]);
     small[i] = a as u16;
-    next[i] = 0;
     next[j] = i as u16;
     last[k] = i as u16;
     names[p] = a as u16;

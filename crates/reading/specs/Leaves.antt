@@ -13,7 +13,7 @@ built-of : {n : ℕ} (names : List ℕ) (a b c : ℕ) → n ≤ 1024 → a ≡ 2
 built-of {n} names a b c few ea eb ec long itself =
     let z = length-replicate {A = ℕ} b 0 in
     built-start few (omega arith) (omega (arith, length-replicate {A = ℕ} a c)) (omega arith) (omega arith) (omega arith)
-    itself (λ k h. getD-replicate {A = ℕ} a k c 0 (omega arith) ∙ ec) (λ k h. getD-replicate {A = ℕ} b k 0 0 (omega arith))
+    itself (λ k h. getD-replicate {A = ℕ} a k c 0 (omega arith) ∙ ec) (λ k h. getD-replicate {A = ℕ} b k 0 0 (omega arith)) (λ k h. getD-replicate {A = ℕ} b k 0 0 (omega arith))
 
 pub built-leaves : {n : ℕ} {names : List ℕ} → n ≤ 1024 → length names ≡ 2048 → ((k : ℕ) → k < n → cell names k ≡ k)
     → Built n [] names (replicate 2048 1024) (replicate 1024 0) (replicate 1024 0) (replicate 1024 0)

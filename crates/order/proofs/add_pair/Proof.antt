@@ -1,7 +1,7 @@
 -- `add_pair` meets its contract: the row's names and its key, and what is stored at them.
 use mathlib.Core.Path.{ap}
 use Prim.Native.Nat.{_<_}
-use lib.ListN.{length, set, length-set}
+use lib.ListN.{length, set}
 use Rattle.order.specs.Built.{adds-parent, adds-room, adds-last, built-next}
 use native.Mathlib.Omega.{arith}
 use borrow.Author.Needs.{needs}
@@ -9,7 +9,7 @@ use Rattle.order.proofs.add_pair.Statement.{statement}
 use Rattle.order.proofs.add_pair.Tie as tie
 
 -- room for the row's names and its key
-here : (c : tie.After-lesser3) → (c .before .before .before .before .before .before .before .lesser .result < 1024) × (c .before .before .before .before .before .before .greater .result < 1024) × (c .lesser3 .result < 1024) × (c .before .before .before .before .before .before .greater .result < length (c .before .before .before .before .before .before .before .before .before .before .before .before .before .args .small .now)) × (c .before .before .before .before .before .before .greater .result < length (c .before .before .before .before .before .before .before .before .before .before .before .before .before .args .next .now)) × (c .lesser3 .result < length (c .before .before .before .before .before .before .before .before .before .before .before .before .before .args .last .now))
+here : (c : tie.After-lesser3) → (c .before .before .before .before .before .before .before .lesser .result < 1024) × (c .before .before .before .before .before .before .greater .result < 1024) × (c .lesser3 .result < 1024) × (c .before .before .before .before .before .before .greater .result < length (c .before .before .before .before .before .before .before .before .before .before .before .before .before .args .small .now)) × (c .lesser3 .result < length (c .before .before .before .before .before .before .before .before .before .before .before .before .before .args .last .now))
 here c = adds-room (c .before .before .before .before .before .before .before .before .before .before .before .before .before .pre .2) (c .before .before .before .before .before .before .before .lesser .ensures) (c .before .before .before .before .before .before .greater .ensures) (c .before .before .before .before .wide .ensures) (c .before .before .wide2 .ensures) (c .before .lesser2 .ensures) (c .lesser3 .ensures)
 
 lesser-requires : tie.Need-lesser-requires
@@ -46,7 +46,7 @@ mul-wide-3 : tie.Need-mul-wide-3
 mul-wide-3 c = omega (arith, here c)
 
 slice-read-wide-3 : tie.Need-slice-read-wide-3
-slice-read-wide-3 c = here (c .before) .5
+slice-read-wide-3 c = here (c .before) .4
 
 wide-requires-3 : tie.Need-wide-requires-3
 wide-requires-3 c κs = search needs
@@ -60,20 +60,14 @@ mul-small c = omega (arith, here (c .before .before))
 slice-write-small : tie.Need-slice-write-small
 slice-write-small c = here (c .before .before) .3
 
-mul-next : tie.Need-mul-next
-mul-next c = omega (arith, here (c .before .before))
-
-slice-write-next : tie.Need-slice-write-next
-slice-write-next c = here (c .before .before) .4
-
 cast-next : tie.Need-cast-next
 cast-next c = omega (arith, here (c .before .before))
 
-mul-next-2 : tie.Need-mul-next-2
-mul-next-2 c = omega (arith, adds-last (c .before .before .before .before .before .before .before .before .before .before .before .before .before .before .before .pre .2) (c .before .before .before .before .before .before .before .before .before .lesser .ensures) (c .before .before .before .before .before .before .before .before .greater .ensures) (c .before .before .before .before .before .before .wide .ensures) (c .before .before .before .before .wide2 .ensures) (c .before .before .before .lesser2 .ensures) (c .before .before .lesser3 .ensures) (c .wide3 .ensures))
+mul-next : tie.Need-mul-next
+mul-next c = omega (arith, adds-last (c .before .before .before .before .before .before .before .before .before .before .before .before .before .before .before .pre .2) (c .before .before .before .before .before .before .before .before .before .lesser .ensures) (c .before .before .before .before .before .before .before .before .greater .ensures) (c .before .before .before .before .before .before .wide .ensures) (c .before .before .before .before .wide2 .ensures) (c .before .before .before .lesser2 .ensures) (c .before .before .lesser3 .ensures) (c .wide3 .ensures))
 
-slice-write-next-2 : tie.Need-slice-write-next-2
-slice-write-next-2 c = simp length-set (adds-last (c .before .before .before .before .before .before .before .before .before .before .before .before .before .before .before .pre .2) (c .before .before .before .before .before .before .before .before .before .lesser .ensures) (c .before .before .before .before .before .before .before .before .greater .ensures) (c .before .before .before .before .before .before .wide .ensures) (c .before .before .before .before .wide2 .ensures) (c .before .before .before .lesser2 .ensures) (c .before .before .lesser3 .ensures) (c .wide3 .ensures))
+slice-write-next : tie.Need-slice-write-next
+slice-write-next c = adds-last (c .before .before .before .before .before .before .before .before .before .before .before .before .before .before .before .pre .2) (c .before .before .before .before .before .before .before .before .before .lesser .ensures) (c .before .before .before .before .before .before .before .before .greater .ensures) (c .before .before .before .before .before .before .wide .ensures) (c .before .before .before .before .wide2 .ensures) (c .before .before .before .lesser2 .ensures) (c .before .before .lesser3 .ensures) (c .wide3 .ensures)
 
 cast-last : tie.Need-cast-last
 cast-last c = omega (arith, here (c .before .before))
@@ -82,7 +76,7 @@ mul-last : tie.Need-mul-last
 mul-last c = omega (arith, here (c .before .before))
 
 slice-write-last : tie.Need-slice-write-last
-slice-write-last c = here (c .before .before) .5
+slice-write-last c = here (c .before .before) .4
 
 cast-names : tie.Need-cast-names
 cast-names c = omega (arith, here (c .before .before))
@@ -140,11 +134,9 @@ add-pair-spec =
     cast-small
     mul-small
     slice-write-small
+    cast-next
     mul-next
     slice-write-next
-    cast-next
-    mul-next-2
-    slice-write-next-2
     cast-last
     mul-last
     slice-write-last
