@@ -99,6 +99,9 @@ built-end {n} {rs} B e h =
       last-room = B .last-room;
     }
 
+least-of-three : (a b c : ℕ) → min (min a b) c ≡ min a (min b c)
+least-of-three a b c = omega arith
+
 -- One row more.
 module _ {n : ℕ} {rs : List Row} {p l r x y : ℕ} {names lows small next last : List ℕ} (A : Adds n rs p l r x y names lows small next last) where
   B : Built n rs (A .before) lows small next last
@@ -371,7 +374,7 @@ module _ {n : ℕ} {rs : List Row} {p l r x y : ℕ} {names lows small next last
 
   -- a and i are the smaller and the larger name of the row's pair, k its key and j the last name with that key
   module _ {a i u v w k : ℕ} (ea : a ≡ min x y) (ei : i ≡ max x y)
-      (eu : u ≡ cell lows l) (ev : v ≡ cell lows r) (ew : w ≡ min u v) (ek : k ≡ min i w) where
+      (eu : u ≡ cell lows l) (ev : v ≡ cell lows r) (ew : w ≡ min i u) (ek : k ≡ min w v) where
     is-smaller : a ≡ S
     is-smaller = ea ∙ ap₂ min (A .first-name ∙ left .name) (A .second-name ∙ right .name)
 
@@ -379,7 +382,7 @@ module _ {n : ℕ} {rs : List Row} {p l r x y : ℕ} {names lows small next last
     is-larger = ei ∙ ap₂ max (A .first-name ∙ left .name) (A .second-name ∙ right .name)
 
     is-key : k ≡ K
-    is-key = ek ∙ ap₂ min is-larger (ew ∙ ap₂ min (eu ∙ left .key) (ev ∙ right .key))
+    is-key = ek ∙ ap₂ min (ew ∙ ap₂ min is-larger (eu ∙ left .key)) (ev ∙ right .key) ∙ least-of-three I (lowest 1024 L′) (lowest 1024 R′)
 
     pub adds-room : (a < 1024) × (i < 1024) × (k < 1024) × (i < length small) × (k < length last)
     adds-room =

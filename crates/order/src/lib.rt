@@ -152,7 +152,7 @@ pub fn add_pair(
 {
     let a = lesser(x, y);
     let i = greater(x, y);
-    let k = lesser(i, lesser(wide(lows[l]), wide(lows[r])));
+    let k = lesser(lesser(i, wide(lows[l])), wide(lows[r]));
     let j = wide(last[k]);
     small[i] = a as u16;
     next[j] = i as u16;

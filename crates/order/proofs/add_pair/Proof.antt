@@ -10,7 +10,7 @@ use Rattle.order.proofs.add_pair.Tie as tie
 
 -- room for the row's names and its key
 here : (c : tie.After-lesser3) → (c .before .before .before .before .before .before .before .lesser .result < 1024) × (c .before .before .before .before .before .before .greater .result < 1024) × (c .lesser3 .result < 1024) × (c .before .before .before .before .before .before .greater .result < length (c .before .before .before .before .before .before .before .before .before .before .before .before .before .args .small .now)) × (c .lesser3 .result < length (c .before .before .before .before .before .before .before .before .before .before .before .before .before .args .last .now))
-here c = adds-room (c .before .before .before .before .before .before .before .before .before .before .before .before .before .pre .2) (c .before .before .before .before .before .before .before .lesser .ensures) (c .before .before .before .before .before .before .greater .ensures) (c .before .before .before .before .wide .ensures) (c .before .before .wide2 .ensures) (c .before .lesser2 .ensures) (c .lesser3 .ensures)
+here c = adds-room (c .before .before .before .before .before .before .before .before .before .before .before .before .before .pre .2) (c .before .before .before .before .before .before .before .lesser .ensures) (c .before .before .before .before .before .before .greater .ensures) (c .before .before .before .before .wide .ensures) (c .before .wide2 .ensures) (c .before .before .before .lesser2 .ensures) (c .lesser3 .ensures)
 
 lesser-requires : tie.Need-lesser-requires
 lesser-requires c κs = search needs
@@ -27,17 +27,17 @@ slice-read-wide c = omega (arith, adds-parent (c .before .before .before .before
 wide-requires : tie.Need-wide-requires
 wide-requires c κs = search needs
 
+lesser-requires-2 : tie.Need-lesser-requires-2
+lesser-requires-2 c κs = search needs
+
 mul-wide-2 : tie.Need-mul-wide-2
 mul-wide-2 c = search needs
 
 slice-read-wide-2 : tie.Need-slice-read-wide-2
-slice-read-wide-2 c = omega (arith, adds-parent (c .before .before .before .before .before .before .before .before .before .before .pre .2))
+slice-read-wide-2 c = omega (arith, adds-parent (c .before .before .before .before .before .before .before .before .before .before .before .pre .2))
 
 wide-requires-2 : tie.Need-wide-requires-2
 wide-requires-2 c κs = search needs
-
-lesser-requires-2 : tie.Need-lesser-requires-2
-lesser-requires-2 c κs = search needs
 
 lesser-requires-3 : tie.Need-lesser-requires-3
 lesser-requires-3 c κs = search needs
@@ -64,10 +64,10 @@ cast-next : tie.Need-cast-next
 cast-next c = omega (arith, here (c .before .before))
 
 mul-next : tie.Need-mul-next
-mul-next c = omega (arith, adds-last (c .before .before .before .before .before .before .before .before .before .before .before .before .before .before .before .pre .2) (c .before .before .before .before .before .before .before .before .before .lesser .ensures) (c .before .before .before .before .before .before .before .before .greater .ensures) (c .before .before .before .before .before .before .wide .ensures) (c .before .before .before .before .wide2 .ensures) (c .before .before .before .lesser2 .ensures) (c .before .before .lesser3 .ensures) (c .wide3 .ensures))
+mul-next c = omega (arith, adds-last (c .before .before .before .before .before .before .before .before .before .before .before .before .before .before .before .pre .2) (c .before .before .before .before .before .before .before .before .before .lesser .ensures) (c .before .before .before .before .before .before .before .before .greater .ensures) (c .before .before .before .before .before .before .wide .ensures) (c .before .before .before .wide2 .ensures) (c .before .before .before .before .before .lesser2 .ensures) (c .before .before .lesser3 .ensures) (c .wide3 .ensures))
 
 slice-write-next : tie.Need-slice-write-next
-slice-write-next c = adds-last (c .before .before .before .before .before .before .before .before .before .before .before .before .before .before .before .pre .2) (c .before .before .before .before .before .before .before .before .before .lesser .ensures) (c .before .before .before .before .before .before .before .before .greater .ensures) (c .before .before .before .before .before .before .wide .ensures) (c .before .before .before .before .wide2 .ensures) (c .before .before .before .lesser2 .ensures) (c .before .before .lesser3 .ensures) (c .wide3 .ensures)
+slice-write-next c = adds-last (c .before .before .before .before .before .before .before .before .before .before .before .before .before .before .before .pre .2) (c .before .before .before .before .before .before .before .before .before .lesser .ensures) (c .before .before .before .before .before .before .before .before .greater .ensures) (c .before .before .before .before .before .before .wide .ensures) (c .before .before .before .wide2 .ensures) (c .before .before .before .before .before .lesser2 .ensures) (c .before .before .lesser3 .ensures) (c .wide3 .ensures)
 
 cast-last : tie.Need-cast-last
 cast-last c = omega (arith, here (c .before .before))
@@ -112,7 +112,7 @@ same-length-5 : tie.Need-same-length-5
 same-length-5 c = search needs
 
 returns : tie.Need-returns
-returns c = (λ n rs A. built-next A (c .before .before .before .before .before .before .before .before .before .lesser .ensures) (c .before .before .before .before .before .before .before .before .greater .ensures) (c .before .before .before .before .before .before .wide .ensures) (c .before .before .before .before .wide2 .ensures) (c .before .before .before .lesser2 .ensures) (c .before .before .lesser3 .ensures) (c .wide3 .ensures), ap (set (c .before .before .before .before .before .before .before .before .before .before .before .before .before .before .before .args .names .now) (c .before .before .before .before .before .before .before .before .before .before .before .before .before .before .before .args .p)) (c .before .before .before .before .before .before .before .before .before .lesser .ensures))
+returns c = (λ n rs A. built-next A (c .before .before .before .before .before .before .before .before .before .lesser .ensures) (c .before .before .before .before .before .before .before .before .greater .ensures) (c .before .before .before .before .before .before .wide .ensures) (c .before .before .before .wide2 .ensures) (c .before .before .before .before .before .lesser2 .ensures) (c .before .before .lesser3 .ensures) (c .wide3 .ensures), ap (set (c .before .before .before .before .before .before .before .before .before .before .before .before .before .before .before .args .names .now) (c .before .before .before .before .before .before .before .before .before .before .before .before .before .before .before .args .p)) (c .before .before .before .before .before .before .before .before .before .lesser .ensures))
 
 pub add-pair-spec : {M : Type 1} → statement M
 add-pair-spec =
@@ -123,10 +123,10 @@ add-pair-spec =
     mul-wide
     slice-read-wide
     wide-requires
+    lesser-requires-2
     mul-wide-2
     slice-read-wide-2
     wide-requires-2
-    lesser-requires-2
     lesser-requires-3
     mul-wide-3
     slice-read-wide-3
