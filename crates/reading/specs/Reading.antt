@@ -8,7 +8,7 @@ use mathlib.Core.Option.{none, some}
 use Prim.Native.Nat.{ℕ, suc, _+_, _-_, _*_, _≤_, _<_, min, max}
 use native.Mathlib.Numerals.{add-one}
 use native.Mathlib.Omega.{arith}
-use lib.Dec.{eqb, leb}
+use lib.Dec.{eqb, ltb, leb}
 use lib.ListN.{length, getD, set, take, drop, length-take, length-set, take-append-drop}
 use lib.Seq.{getD-set-same, getD-set-other, take-all}
 use borrow.Author.Tests.{eqb-true, eqb-false, leb-true, leb-false}
@@ -20,7 +20,7 @@ use Rattle.rows.specs.Forest.{RowOk, namedIn, namedAlso, named-snoc, fault-appe
 use Rattle.order.specs.Walk.{cell}
 use Rattle.order.specs.Built.{taken, nodes, Built, Adds}
 use Rattle.reading.specs.RowAt.{rowAt, rows-count, rows-drop, rows-take}
-use Rattle.reading.specs.Verdict.{verdict, verdict-fault, placed, named-verdict, placed-row}
+use Rattle.reading.specs.Verdict.{verdict, verdict-fault, placed, named-verdict, placed-row, in-place}
 
 -- t rows are read: accepted, added to the arrays, their children marked
 pub record Reads (n : ℕ) (xs : List ℕ) (t : ℕ) (names lows small next last : List ℕ) : Type 0 where
@@ -78,7 +78,7 @@ row-of n xs t l r p A = λ i. (A .first i, A .second i, A .parent i)
 
 -- Row t, whose parent and children are in place.
 module _ {n : ℕ} {xs : List ℕ} {t l r p : ℕ} {names lows small next last : List ℕ} (R : Reads n xs t names lows small next last) (A : Row-at n xs t l r p)
-    (v : placed (n + t) (l, r, p) ≡ 0) where
+    (v : ltb 0 (placed (n + t) (l, r, p)) ≡ false) where
   abbrev before : List Row
   before = take t (rowsOf xs)
 
@@ -86,7 +86,7 @@ module _ {n : ℕ} {xs : List ℕ} {t l r p : ℕ} {names lows small next last :
   long = rows-read n xs t (R .count) (R .so-far)
 
   there : (p ≡ n + t) × (l < n + t) × (r < n + t)
-  there = placed-row (n + t) (l, r, p) v
+  there = placed-row (n + t) (l, r, p) (in-place (n + t) (l, r, p) v)
 
   pub reads-inside : (l < length names) × (r < length names)
   reads-inside = let a = there in omega (arith, R .built .names-room, A .inside)
@@ -120,7 +120,7 @@ module _ {n : ℕ} {xs : List ℕ} {t l r p : ℕ} {names lows small next last :
     -- a mark: a child is named before, or twice
     pub reads-named : 65535 ≤ max x y → 7 ≡ verdict (taken before) (n + t) (l, r, p)
     unfolding namedTwice
-    reads-named h = named-verdict (taken before) (n + t) (l, r, p) v (go (leb 65535 x) refl (eqb l r) refl)
+    reads-named h = named-verdict (taken before) (n + t) (l, r, p) (in-place (n + t) (l, r, p) v) (go (leb 65535 x) refl (eqb l r) refl)
       where
         go : (a : Bool) → leb 65535 x ≡ a → (b : Bool) → eqb l r ≡ b → taken before l || taken before r || eqb l r ≡ true
         go true q b s = rw (named l (there .1) (omega (arith, leb-true 65535 x q)))

@@ -2,10 +2,12 @@
 -- Main definitions: HasRead, Told. Main results: read-placed, read-named, read-all, told-fault, told-vector.
 use mathlib.Core.Path.{_≡_, refl, sym, ap, _∙_}
 use mathlib.Core.Logic.{_≢_}
+use mathlib.Core.Bool.{true, false}
 use mathlib.Core.List.{List, _++_}
 use mathlib.Core.Option.{none, some}
 use Prim.Native.Nat.{ℕ, _+_, _-_, _≤_, max}
 use native.Mathlib.Omega.{arith}
+use lib.Dec.{ltb}
 use lib.ListN.{take, drop, set}
 use Rattle.rules.specs.Tree.{Tree}
 use Rattle.rules.specs.Order.{vectorOf}
@@ -14,7 +16,7 @@ use Rattle.order.specs.Walk.{cell}
 use Rattle.order.specs.Built.{taken, built-end}
 use Rattle.order.specs.Vector.{Drawn}
 use Rattle.reading.specs.declared.Found.{Found}
-use Rattle.reading.specs.Verdict.{verdict, placed, placed-verdict, rowNumber, verdict-number}
+use Rattle.reading.specs.Verdict.{verdict, placed, placed-verdict, misplaced-not, misplacedNumber, misplaced-number, rowNumber, verdict-number}
 use Rattle.reading.specs.Reading.{Reads, Row-at, reads-named, reads-fault, Accepted, reads-end}
 
 -- a fault is what was found, and where none was found the arrays hold the tree of all rows
@@ -38,12 +40,14 @@ read-fault {n} {xs} {t} {l} {r} {p} R A e d = record {
 }
 
 pub read-placed : {n : ℕ} {xs : List ℕ} {t l r p x : ℕ} {names lows small next last names′ lows′ small′ next′ last′ : List ℕ} → Reads n xs t names lows small next last
-    → Row-at n xs t l r p → x ≡ placed (n + t) (l, r, p) → x ≢ 0 → HasRead n xs names′ lows′ small′ next′ last′ (record { number = x; row = t })
-read-placed {n} {xs} {t} {l} {r} {p} R A e d =
-    read-fault R A (e ∙ placed-verdict (taken (take t (rowsOf xs))) (n + t) (l, r, p) (λ q. d (e ∙ q))) d
+    → Row-at n xs t l r p → ltb 0 (placed (n + t) (l, r, p)) ≡ true → x ≡ misplacedNumber (n + t) p → HasRead n xs names′ lows′ small′ next′ last′ (record { number = x; row = t })
+read-placed {n} {xs} {t} {l} {r} {p} R A h e =
+    let d = misplaced-not (n + t) (l, r, p) h in
+    let f = e ∙ misplaced-number (n + t) (l, r, p) d in
+    read-fault R A (f ∙ placed-verdict (taken (take t (rowsOf xs))) (n + t) (l, r, p) d) (λ q. d (sym f ∙ q))
 
 pub read-named : {n : ℕ} {xs : List ℕ} {t l r p x y : ℕ} {names lows small next last names₁ names₂ names′ lows′ small′ next′ last′ : List ℕ} → Reads n xs t names lows small next last
-    → Row-at n xs t l r p → placed (n + t) (l, r, p) ≡ 0 → x ≡ cell names l → names₁ ≡ set names l 65535 → y ≡ cell names₁ r → names₂ ≡ set names₁ r 65535 → 65535 ≤ max x y
+    → Row-at n xs t l r p → ltb 0 (placed (n + t) (l, r, p)) ≡ false → x ≡ cell names l → names₁ ≡ set names l 65535 → y ≡ cell names₁ r → names₂ ≡ set names₁ r 65535 → 65535 ≤ max x y
     → HasRead n xs names′ lows′ small′ next′ last′ (record { number = 7; row = t })
 read-named R A v ex e₁ ey e₂ h = read-fault R A (reads-named R A v ex e₁ ey e₂ h) (omega arith)
 

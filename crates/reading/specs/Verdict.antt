@@ -1,5 +1,5 @@
 -- The verdict on one row: 0, or the number of its refusal.
--- Main definitions: verdict, placed. Main results: verdict-fault, placed-verdict, named-verdict, placed-row, and a law for each way to 5 or 6.
+-- Main definitions: verdict, placed, misplacedNumber. Main results: verdict-fault, placed-verdict, named-verdict, placed-row, misplaced-number.
 use mathlib.Core.Path.{_≡_, refl}
 use mathlib.Core.Logic.{_≢_}
 use mathlib.Core.Bool.{Bool, true, false, not, _&&_, cond}
@@ -7,8 +7,8 @@ use mathlib.Core.List.{List, _∷_}
 use mathlib.Core.Option.{some}
 use Prim.Native.Nat.{ℕ, _+_, _≤_, _<_}
 use native.Mathlib.Omega.{arith}
-use lib.Dec.{eqb, ltb}
-use borrow.Author.Tests.{eqb-true, eq-eqb, ne-eqb, ltb-true, lt-ltb, le-ltb}
+use lib.Dec.{eqb, ltb, leb}
+use borrow.Author.Tests.{eqb-true, eq-eqb, ne-eqb, ltb-true, ltb-false, lt-ltb, le-ltb, leb-true, leb-false}
 use Rattle.rules.specs.Table.{Row, childrenBelow, namedTwice, rowFault}
 
 -- 5, 6 and 7 in this order
@@ -69,21 +69,48 @@ placed-row p r e = go (eqb (r .2) p) (ltb (r .0) p) (ltb (r .1) p) refl refl ref
     go true true false q s u f = absurd (omega arith)
     go true true true q s u f = (eqb-true (r .2) p q, ltb-true (r .0) p s, ltb-true (r .1) p u)
 
-pub wrong-parent : (p l r q : ℕ) → q ≢ p → 5 ≡ placed p (l, r, q)
+-- ---- the test for them, and the number where it holds
+pub wrong-parent : (p l r q : ℕ) → q ≢ p → true ≡ ltb 0 (placed p (l, r, q))
 unfolding placed
 wrong-parent p l r q h = rw (ne-eqb q p h)
 
-pub wrong-first : (p l r q : ℕ) → q ≡ p → p ≤ l → 6 ≡ placed p (l, r, q)
+pub wrong-first : (p l r q : ℕ) → q ≡ p → p ≤ l → true ≡ ltb 0 (placed p (l, r, q))
 unfolding placed
 wrong-first p l r q e h = rw (eq-eqb q p e, le-ltb l p h)
 
-pub wrong-second : (p l r q : ℕ) → q ≡ p → l < p → p ≤ r → 6 ≡ placed p (l, r, q)
+pub wrong-second : (p l r q : ℕ) → q ≡ p → l < p → leb p r ≡ ltb 0 (placed p (l, r, q))
 unfolding placed
-wrong-second p l r q e h k = rw (eq-eqb q p e, lt-ltb l p h, le-ltb r p k)
+wrong-second p l r q e h = rw (eq-eqb q p e, lt-ltb l p h) (go (leb p r) refl)
+  where
+    go : (b : Bool) → leb p r ≡ b → b ≡ ltb 0 (firstOf false (not (ltb r p)) false)
+    go true k = rw (le-ltb r p (leb-true p r k))
+    go false k = rw (lt-ltb r p (leb-false p r k))
 
-pub in-place : (p l r q : ℕ) → q ≡ p → l < p → r < p → 0 ≡ placed p (l, r, q)
-unfolding placed
-in-place p l r q e h k = rw (eq-eqb q p e, lt-ltb l p h, lt-ltb r p k)
+pub misplaced-not : (p : ℕ) (r : Row) → ltb 0 (placed p r) ≡ true → placed p r ≢ 0
+misplaced-not p r e q = omega (arith, ltb-true 0 (placed p r) e)
+
+pub in-place : (p : ℕ) (r : Row) → ltb 0 (placed p r) ≡ false → placed p r ≡ 0
+in-place p r e = omega (arith, ltb-false 0 (placed p r) e)
+
+unfoldable pub misplacedNumber : ℕ → ℕ → ℕ
+misplacedNumber p q = cond (eqb q p) 6 5
+
+pub number-parent : (p q : ℕ) → q ≢ p → 5 ≡ misplacedNumber p q
+unfolding misplacedNumber
+number-parent p q h = rw (ne-eqb q p h)
+
+pub number-child : (p q : ℕ) → q ≡ p → 6 ≡ misplacedNumber p q
+unfolding misplacedNumber
+number-child p q h = rw (eq-eqb q p h)
+
+pub misplaced-number : (p : ℕ) (r : Row) → placed p r ≢ 0 → misplacedNumber p (r .2) ≡ placed p r
+unfolding placed misplacedNumber
+misplaced-number p r d = go (eqb (r .2) p) (not (childrenBelow p r)) d
+  where
+    go : (a b : Bool) → firstOf (not a) b false ≢ 0 → cond a 6 5 ≡ firstOf (not a) b false
+    go false b h = refl
+    go true true h = refl
+    go true false h = absurd (h refl)
 
 -- the number of a row's refusal: 5, 6, else 7
 unfoldable pub rowNumber : ℕ → ℕ

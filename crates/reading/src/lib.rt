@@ -4,7 +4,8 @@ ghost use mathlib.Core.List.{List, _++_};
 ghost use Prim.Native.Nat.{ℕ, _+_, _-_, _*_, _≤_, _<_};
 ghost use lib.ListN.{length, drop, set};
 ghost use Rattle.order.specs.Walk.{cell};
-ghost use Rattle.reading.specs.Verdict.{placed};
+ghost use lib.Dec.{ltb};
+ghost use Rattle.reading.specs.Verdict.{placed, misplacedNumber};
 ghost use Rattle.reading.specs.Reading.{Reads};
 ghost use Rattle.reading.specs.Told.{HasRead, Told};
 ghost use Rattle.reading.specs.Children.{Children, Added};
@@ -18,20 +19,27 @@ pub struct Found {
     pub row: usize,
 }
 
-// The verdict on the numbers of a row whose parent must be p.
-fn row_verdict(p: usize, l: usize, r: usize, parent: usize) -> u8
-    ensures { λ x. ⌜ x ≡ placed p (l, r, parent) ⌝ }
+// Is a row, whose parent must be p, refused for its numbers?
+fn misplaced(p: usize, l: usize, r: usize, parent: usize) -> bool
+    ensures { λ b. ⌜ b ≡ ltb 0 (placed p (l, r, parent)) ⌝ }
+{
+    if parent != p {
+        return true;
+    }
+    if p <= l {
+        return true;
+    }
+    p <= r
+}
+
+// The number of the refusal of such a row. It is worked out apart from the test, since few rows need it.
+fn misplaced_number(p: usize, parent: usize) -> u8
+    ensures { λ x. ⌜ x ≡ misplacedNumber p parent ⌝ }
 {
     if parent != p {
         return 5;
     }
-    if p <= l {
-        return 6;
-    }
-    if p <= r {
-        return 6;
-    }
-    0
+    6
 }
 
 // The name of node c, or 65535 where a row has named it as a child: from now on this one has.
@@ -60,10 +68,12 @@ fn read_rows(
     let count = n - 1;
     let mut t: usize = 0;
     while t < count {
+        let p = n + t;
         let l = wide(rows[3 * t]);
         let r = wide(rows[3 * t + 1]);
-        let v = row_verdict(n + t, l, r, wide(rows[3 * t + 2]));
-        if v != 0 {
+        let parent = wide(rows[3 * t + 2]);
+        if misplaced(p, l, r, parent) {
+            let v = misplaced_number(p, parent);
             return Found { number: v, row: t };
         }
         let x = take_name(names, l);
@@ -71,7 +81,7 @@ fn read_rows(
         if 65535 <= order::greater(x, y) {
             return Found { number: 7, row: t };
         }
-        order::add_pair(names, lows, small, next, last, n + t, l, r, x, y);
+        order::add_pair(names, lows, small, next, last, p, l, r, x, y);
         t += 1;
     }
     Found { number: 0, row: 0 }

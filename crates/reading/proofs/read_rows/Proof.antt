@@ -20,6 +20,9 @@ sub-count c = search needs
 loop-holds : tie.Need-loop-holds Inv-loop μ-loop
 loop-holds c = (c .before .before .before .before .before .before .pre, record { of-names = refl; of-lows = refl; of-small = refl; of-next = refl; of-last = refl }, refl)
 
+add-p : tie.Need-add-p Inv-loop μ-loop
+add-p c = search needs
+
 mul-wide : tie.Need-mul-wide Inv-loop μ-loop
 mul-wide c = search needs
 
@@ -47,9 +50,6 @@ shared-slice-read-wide-2 c = search needs
 wide-requires-2 : tie.Need-wide-requires-2 Inv-loop μ-loop
 wide-requires-2 c κs = search needs
 
-add-row-verdict : tie.Need-add-row-verdict Inv-loop μ-loop
-add-row-verdict c = search needs
-
 mul-wide-5 : tie.Need-mul-wide-5 Inv-loop μ-loop
 mul-wide-5 c = search needs
 
@@ -65,8 +65,11 @@ shared-slice-read-wide-3 c = search needs
 wide-requires-3 : tie.Need-wide-requires-3 Inv-loop μ-loop
 wide-requires-3 c κs = search needs
 
-row-verdict-requires : tie.Need-row-verdict-requires Inv-loop μ-loop
-row-verdict-requires c κs = search needs
+misplaced-requires : tie.Need-misplaced-requires Inv-loop μ-loop
+misplaced-requires c κs = search needs
+
+misplaced-number-requires : tie.Need-misplaced-number-requires Inv-loop μ-loop
+misplaced-number-requires c κs = search needs
 
 same-length : tie.Need-same-length Inv-loop μ-loop
 same-length c = search needs
@@ -84,13 +87,13 @@ same-length-5 : tie.Need-same-length-5 Inv-loop μ-loop
 same-length-5 c = search needs
 
 returns : tie.Need-returns Inv-loop μ-loop
-returns c = read-placed (c .before .before .before .before .before .before .before .before .before .loop .inv .0) (record { inside = omega arith; first = sym (c .before .before .before .before .before .before .wide .ensures); second = sym (c .before .before .before .before .wide2 .ensures); parent = sym (c .before .before .wide3 .ensures) }) (c .before .row-verdict .ensures) (c .if1 .taken)
+returns c = read-placed (c .before .before .before .before .before .before .before .before .before .before .loop .inv .0) (record { inside = omega arith; first = sym (c .before .before .before .before .before .before .before .wide .ensures); second = sym (c .before .before .before .before .before .wide2 .ensures); parent = sym (c .before .before .before .wide3 .ensures) }) (sym (c .before .before .misplaced .ensures) ∙ c .before .if1 .taken) (c .misplaced-number .ensures)
 
 take-name-requires : tie.Need-take-name-requires Inv-loop μ-loop
-take-name-requires c κs = reads-inside (c .before .before .before .before .before .before .before .before .before .before .loop .inv .0) (record { inside = omega arith; first = sym (c .before .before .before .before .before .before .before .wide .ensures); second = sym (c .before .before .before .before .before .wide2 .ensures); parent = sym (c .before .before .before .wide3 .ensures) }) (sym (c .before .before .row-verdict .ensures) ∙ c .before .if1 .left) .0
+take-name-requires c κs = reads-inside (c .before .before .before .before .before .before .before .before .before .before .loop .inv .0) (record { inside = omega arith; first = sym (c .before .before .before .before .before .before .before .wide .ensures); second = sym (c .before .before .before .before .before .wide2 .ensures); parent = sym (c .before .before .before .wide3 .ensures) }) (sym (c .before .before .misplaced .ensures) ∙ c .before .if1 .left) .0
 
 take-name-requires-2 : tie.Need-take-name-requires-2 Inv-loop μ-loop
-take-name-requires-2 c κs = omega (arith, c .before .before .before .take-name .kept, reads-inside (c .before .before .before .before .before .before .before .before .before .before .before .before .before .before .loop .inv .0) (record { inside = omega arith; first = sym (c .before .before .before .before .before .before .before .before .before .before .before .wide .ensures); second = sym (c .before .before .before .before .before .before .before .before .before .wide2 .ensures); parent = sym (c .before .before .before .before .before .before .before .wide3 .ensures) }) (sym (c .before .before .before .before .before .before .row-verdict .ensures) ∙ c .before .before .before .before .before .if1 .left))
+take-name-requires-2 c κs = omega (arith, c .before .before .before .take-name .kept, reads-inside (c .before .before .before .before .before .before .before .before .before .before .before .before .before .before .loop .inv .0) (record { inside = omega arith; first = sym (c .before .before .before .before .before .before .before .before .before .before .before .wide .ensures); second = sym (c .before .before .before .before .before .before .before .before .before .wide2 .ensures); parent = sym (c .before .before .before .before .before .before .before .wide3 .ensures) }) (sym (c .before .before .before .before .before .before .misplaced .ensures) ∙ c .before .before .before .before .before .if1 .left))
 
 greater-requires : tie.Need-greater-requires Inv-loop μ-loop
 greater-requires c κs = search needs
@@ -111,13 +114,10 @@ same-length-10 : tie.Need-same-length-10 Inv-loop μ-loop
 same-length-10 c = search needs
 
 returns-2 : tie.Need-returns-2 Inv-loop μ-loop
-returns-2 c = read-named (c .before .before .before .before .before .before .before .before .before .before .before .before .before .before .before .before .before .before .before .loop .inv .0) (record { inside = omega arith; first = sym (c .before .before .before .before .before .before .before .before .before .before .before .before .before .before .before .before .wide .ensures); second = sym (c .before .before .before .before .before .before .before .before .before .before .before .before .before .before .wide2 .ensures); parent = sym (c .before .before .before .before .before .before .before .before .before .before .before .before .wide3 .ensures) }) (sym (c .before .before .before .before .before .before .before .before .before .before .before .row-verdict .ensures) ∙ c .before .before .before .before .before .before .before .before .before .before .if1 .left) (c .before .before .before .before .before .before .before .before .take-name .ensures .0) (c .before .before .before .before .before .before .before .before .take-name .ensures .1) (c .before .before .before .before .take-name2 .ensures .0) (c .before .before .before .before .take-name2 .ensures .1) (omega (arith, c .before .greater .ensures, c .if2 .taken))
-
-add-add-pair : tie.Need-add-add-pair Inv-loop μ-loop
-add-add-pair c = search needs
+returns-2 c = read-named (c .before .before .before .before .before .before .before .before .before .before .before .before .before .before .before .before .before .before .before .loop .inv .0) (record { inside = omega arith; first = sym (c .before .before .before .before .before .before .before .before .before .before .before .before .before .before .before .before .wide .ensures); second = sym (c .before .before .before .before .before .before .before .before .before .before .before .before .before .before .wide2 .ensures); parent = sym (c .before .before .before .before .before .before .before .before .before .before .before .before .wide3 .ensures) }) (sym (c .before .before .before .before .before .before .before .before .before .before .before .misplaced .ensures) ∙ c .before .before .before .before .before .before .before .before .before .before .if1 .left) (c .before .before .before .before .before .before .before .before .take-name .ensures .0) (c .before .before .before .before .before .before .before .before .take-name .ensures .1) (c .before .before .before .before .take-name2 .ensures .0) (c .before .before .before .before .take-name2 .ensures .1) (omega (arith, c .before .greater .ensures, c .if2 .taken))
 
 add-pair-requires : tie.Need-add-pair-requires Inv-loop μ-loop
-add-pair-requires c κs = adds-some (c .before .before .before .before .before .before .before .before .before .before .before .before .before .before .before .before .before .before .before .before .before .before .before .before .loop .inv .0) (record { inside = omega arith; first = sym (c .before .before .before .before .before .before .before .before .before .before .before .before .before .before .before .before .before .before .before .before .before .wide .ensures); second = sym (c .before .before .before .before .before .before .before .before .before .before .before .before .before .before .before .before .before .before .before .wide2 .ensures); parent = sym (c .before .before .before .before .before .before .before .before .before .before .before .before .before .before .before .before .before .wide3 .ensures) }) (sym (c .before .before .before .before .before .before .before .before .before .before .before .before .before .before .before .before .row-verdict .ensures) ∙ c .before .before .before .before .before .before .before .before .before .before .before .before .before .before .before .if1 .left) (c .before .before .before .before .before .before .before .before .before .before .before .before .before .take-name .ensures .0) (c .before .before .before .before .before .before .before .before .before .before .before .before .before .take-name .ensures .1) (c .before .before .before .before .before .before .before .before .before .take-name2 .ensures .0) (c .before .before .before .before .before .before .before .before .before .take-name2 .ensures .1) (omega (arith, c .before .before .before .before .before .before .greater .ensures, c .before .before .before .before .before .if2 .left))
+add-pair-requires c κs = adds-some (c .before .before .before .before .before .before .before .before .before .before .before .before .before .before .before .before .before .before .before .before .before .before .before .before .loop .inv .0) (record { inside = omega arith; first = sym (c .before .before .before .before .before .before .before .before .before .before .before .before .before .before .before .before .before .before .before .before .before .wide .ensures); second = sym (c .before .before .before .before .before .before .before .before .before .before .before .before .before .before .before .before .before .before .before .wide2 .ensures); parent = sym (c .before .before .before .before .before .before .before .before .before .before .before .before .before .before .before .before .before .wide3 .ensures) }) (sym (c .before .before .before .before .before .before .before .before .before .before .before .before .before .before .before .before .misplaced .ensures) ∙ c .before .before .before .before .before .before .before .before .before .before .before .before .before .before .before .if1 .left) (c .before .before .before .before .before .before .before .before .before .before .before .before .before .take-name .ensures .0) (c .before .before .before .before .before .before .before .before .before .before .before .before .before .take-name .ensures .1) (c .before .before .before .before .before .before .before .before .before .take-name2 .ensures .0) (c .before .before .before .before .before .before .before .before .before .take-name2 .ensures .1) (omega (arith, c .before .before .before .before .before .before .greater .ensures, c .before .before .before .before .before .if2 .left))
 
 add-t : tie.Need-add-t Inv-loop μ-loop
 add-t c = omega (arith, c .before .before .before .before .before .before .before .before .before .before .before .before .before .before .before .before .before .before .before .before .before .before .before .before .before .before .before .before .before .before .before .before .before .before .loop-test .taken, c .before .before .before .before .before .before .before .before .before .before .before .before .before .before .before .before .before .before .before .before .before .before .before .before .before .before .before .before .before .before .before .before .before .before .before .loop .inv .2, c .before .before .before .before .before .before .before .before .before .before .before .before .before .before .before .before .before .before .before .before .before .before .before .before .before .before .before .before .before .before .before .before .before .before .before .before .before .before .before .before .before .before .pre .few)
@@ -127,7 +127,7 @@ loop-less c = search needs
 
 loop-again : tie.Need-loop-again Inv-loop μ-loop
 loop-again c = (
-  reads-next (c .before .before .before .before .before .before .before .before .before .before .before .before .before .before .before .before .before .before .before .before .before .before .before .before .before .before .before .before .before .before .before .before .before .before .before .loop .inv .0) (record { inside = omega arith; first = sym (c .before .before .before .before .before .before .before .before .before .before .before .before .before .before .before .before .before .before .before .before .before .before .before .before .before .before .before .before .before .before .before .before .wide .ensures); second = sym (c .before .before .before .before .before .before .before .before .before .before .before .before .before .before .before .before .before .before .before .before .before .before .before .before .before .before .before .before .before .before .wide2 .ensures); parent = sym (c .before .before .before .before .before .before .before .before .before .before .before .before .before .before .before .before .before .before .before .before .before .before .before .before .before .before .before .before .wide3 .ensures) }) (sym (c .before .before .before .before .before .before .before .before .before .before .before .before .before .before .before .before .before .before .before .before .before .before .before .before .before .before .before .row-verdict .ensures) ∙ c .before .before .before .before .before .before .before .before .before .before .before .before .before .before .before .before .before .before .before .before .before .before .before .before .before .before .if1 .left) (c .before .before .before .before .before .before .before .before .before .before .before .before .before .before .before .before .before .before .before .before .before .before .before .before .take-name .ensures .0) (c .before .before .before .before .before .before .before .before .before .before .before .before .before .before .before .before .before .before .before .before .before .before .before .before .take-name .ensures .1) (c .before .before .before .before .before .before .before .before .before .before .before .before .before .before .before .before .before .before .before .before .take-name2 .ensures .0) (c .before .before .before .before .before .before .before .before .before .before .before .before .before .before .before .before .before .before .before .before .take-name2 .ensures .1)
+  reads-next (c .before .before .before .before .before .before .before .before .before .before .before .before .before .before .before .before .before .before .before .before .before .before .before .before .before .before .before .before .before .before .before .before .before .before .before .loop .inv .0) (record { inside = omega arith; first = sym (c .before .before .before .before .before .before .before .before .before .before .before .before .before .before .before .before .before .before .before .before .before .before .before .before .before .before .before .before .before .before .before .before .wide .ensures); second = sym (c .before .before .before .before .before .before .before .before .before .before .before .before .before .before .before .before .before .before .before .before .before .before .before .before .before .before .before .before .before .before .wide2 .ensures); parent = sym (c .before .before .before .before .before .before .before .before .before .before .before .before .before .before .before .before .before .before .before .before .before .before .before .before .before .before .before .before .wide3 .ensures) }) (sym (c .before .before .before .before .before .before .before .before .before .before .before .before .before .before .before .before .before .before .before .before .before .before .before .before .before .before .before .misplaced .ensures) ∙ c .before .before .before .before .before .before .before .before .before .before .before .before .before .before .before .before .before .before .before .before .before .before .before .before .before .before .if1 .left) (c .before .before .before .before .before .before .before .before .before .before .before .before .before .before .before .before .before .before .before .before .before .before .before .before .take-name .ensures .0) (c .before .before .before .before .before .before .before .before .before .before .before .before .before .before .before .before .before .before .before .before .before .before .before .before .take-name .ensures .1) (c .before .before .before .before .before .before .before .before .before .before .before .before .before .before .before .before .before .before .before .before .take-name2 .ensures .0) (c .before .before .before .before .before .before .before .before .before .before .before .before .before .before .before .before .before .before .before .before .take-name2 .ensures .1)
       (omega (arith, c .before .before .before .before .before .before .before .before .before .before .before .before .before .before .before .before .before .greater .ensures, c .before .before .before .before .before .before .before .before .before .before .before .before .before .before .before .before .if2 .left)) (c .before .before .before .before .before .before .before .before .before .before .add-pair .ensures .1) (c .before .before .before .before .before .before .before .before .before .before .add-pair .ensures .0),
   record { of-names = omega (arith, c .before .before .before .before .before .before .before .before .before .before .add-pair .kept, c .before .before .before .before .before .before .before .before .before .before .before .before .before .before .before .before .before .before .before .before .take-name2 .kept, c .before .before .before .before .before .before .before .before .before .before .before .before .before .before .before .before .before .before .before .before .before .before .before .before .take-name .kept, c .before .before .before .before .before .before .before .before .before .before .before .before .before .before .before .before .before .before .before .before .before .before .before .before .before .before .before .before .before .before .before .before .before .before .before .loop .inv .1 .of-names); of-lows = omega (arith, c .before .before .before .before .before .before .before .before .before .before .add-pair .kept, c .before .before .before .before .before .before .before .before .before .before .before .before .before .before .before .before .before .before .before .before .before .before .before .before .before .before .before .before .before .before .before .before .before .before .before .loop .inv .1 .of-lows); of-small = omega (arith, c .before .before .before .before .before .before .before .before .before .before .add-pair .kept, c .before .before .before .before .before .before .before .before .before .before .before .before .before .before .before .before .before .before .before .before .before .before .before .before .before .before .before .before .before .before .before .before .before .before .before .loop .inv .1 .of-small); of-next = omega (arith, c .before .before .before .before .before .before .before .before .before .before .add-pair .kept, c .before .before .before .before .before .before .before .before .before .before .before .before .before .before .before .before .before .before .before .before .before .before .before .before .before .before .before .before .before .before .before .before .before .before .before .loop .inv .1 .of-next); of-last = omega (arith, c .before .before .before .before .before .before .before .before .before .before .add-pair .kept, c .before .before .before .before .before .before .before .before .before .before .before .before .before .before .before .before .before .before .before .before .before .before .before .before .before .before .before .before .before .before .before .before .before .before .before .loop .inv .1 .of-last) },
   c .before .before .before .before .before .before .before .before .before .before .before .before .before .before .before .before .before .before .before .before .before .before .before .before .before .before .before .before .before .before .before .before .before .before .before .loop .inv .2,
@@ -159,6 +159,7 @@ read-rows-spec =
     μ-loop
     sub-count
     loop-holds
+    add-p
     mul-wide
     mul-wide-2
     shared-slice-read-wide
@@ -168,13 +169,13 @@ read-rows-spec =
     mul-wide-4
     shared-slice-read-wide-2
     wide-requires-2
-    add-row-verdict
     mul-wide-5
     add-wide-2
     mul-wide-6
     shared-slice-read-wide-3
     wide-requires-3
-    row-verdict-requires
+    misplaced-requires
+    misplaced-number-requires
     same-length
     same-length-2
     same-length-3
@@ -190,7 +191,6 @@ read-rows-spec =
     same-length-9
     same-length-10
     returns-2
-    add-add-pair
     add-pair-requires
     add-t
     loop-less
