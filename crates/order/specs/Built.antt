@@ -49,14 +49,15 @@ pub record Built (n : ℕ) (rs : List Row) (names lows small next last : List �
   pub next-room : n ≤ length next
   pub last-room : n ≤ length last
 
--- a row with the children l and r and the parent p can be added. x and y are the names of the children, which names need not have any more.
-pub record Adds (n : ℕ) (rs : List Row) (p l r x y : ℕ) (names lows small next last : List ℕ) : Type 0 where
+-- a row with the children l and r and the parent p can be added. a and i are the smaller and the larger of the children's names, which names need
+-- not have any more.
+pub record Adds (n : ℕ) (rs : List Row) (p l r a i : ℕ) (names lows small next last : List ℕ) : Type 0 where
   pub before : List ℕ
   pub built : Built n rs before lows small next last
   pub others : (k : ℕ) → k ≢ l → k ≢ r → cell names k ≡ cell before k
   pub same : length names ≡ length before
-  pub first-name : x ≡ cell before l
-  pub second-name : y ≡ cell before r
+  pub smaller-name : a ≡ min (cell before l) (cell before r)
+  pub larger-name : i ≡ max (cell before l) (cell before r)
   pub count : p ≡ n + length rs
   pub row : RowOk n (length rs) (taken rs) (l, r, p)
 
@@ -103,7 +104,7 @@ least-of-three : (a b c : ℕ) → min (min a b) c ≡ min a (min b c)
 least-of-three a b c = omega arith
 
 -- One row more.
-module _ {n : ℕ} {rs : List Row} {p l r x y : ℕ} {names lows small next last : List ℕ} (A : Adds n rs p l r x y names lows small next last) where
+module _ {n : ℕ} {rs : List Row} {p l r a i : ℕ} {names lows small next last : List ℕ} (A : Adds n rs p l r a i names lows small next last) where
   B : Built n rs (A .before) lows small next last
   B = A .built
 
@@ -372,15 +373,14 @@ module _ {n : ℕ} {rs : List Row} {p l r x y : ℕ} {names lows small next last
     last-room = omega (arith, length-set last K I, B .last-room);
   }
 
-  -- a and i are the smaller and the larger name of the row's pair, k its key and j the last name with that key
-  module _ {a i u v w k : ℕ} (ea : a ≡ min x y) (ei : i ≡ max x y)
-      (eu : u ≡ cell lows l) (ev : v ≡ cell lows r) (ew : w ≡ min i u) (ek : k ≡ min w v) where
-    is-smaller : a ≡ S
-    is-smaller = ea ∙ ap₂ min (A .first-name ∙ left .name) (A .second-name ∙ right .name)
+  is-smaller : a ≡ S
+  is-smaller = A .smaller-name ∙ ap₂ min (left .name) (right .name)
 
-    is-larger : i ≡ I
-    is-larger = ei ∙ ap₂ max (A .first-name ∙ left .name) (A .second-name ∙ right .name)
+  is-larger : i ≡ I
+  is-larger = A .larger-name ∙ ap₂ max (left .name) (right .name)
 
+  -- k is the key of the row's pair, and j the last name with that key
+  module _ {u v w k : ℕ} (eu : u ≡ cell lows l) (ev : v ≡ cell lows r) (ew : w ≡ min i u) (ek : k ≡ min w v) where
     is-key : k ≡ K
     is-key = ek ∙ ap₂ min (ew ∙ ap₂ min is-larger (eu ∙ left .key)) (ev ∙ right .key) ∙ least-of-three I (lowest 1024 L′) (lowest 1024 R′)
 

@@ -112,7 +112,8 @@ pub fn vector_of(n: usize, small: &[u16], next: &[u16], last: &[u16], out: &mut 
     out[0] = 0;
 }
 
-fn lesser(x: usize, y: usize) -> usize
+/// The lesser of two numbers.
+pub fn lesser(x: usize, y: usize) -> usize
     ensures { λ r. ⌜ r ≡ min x y ⌝ }
 {
     if x < y {
@@ -131,7 +132,7 @@ pub fn greater(x: usize, y: usize) -> usize
     x
 }
 
-/// Adds the row of node p with the children l and r, named x and y, to the arrays. names and lows have the name and the key of each node; a
+/// Adds the row of node p with the children l and r to the arrays; a and i are the smaller and the larger of their names. names and lows have the name and the key of each node; a
 /// leaf has no pair, and its key is 1024. The pair goes to the end of its key's chain: next[i] is still 0.
 /// next[0] belongs to no pair.
 pub fn add_pair(
@@ -143,15 +144,13 @@ pub fn add_pair(
     p: usize,
     l: usize,
     r: usize,
-    x: usize,
-    y: usize,
+    a: usize,
+    i: usize,
 )
-    requires { ⌜ ((n : ℕ) × (rs : List Row) × Adds n rs p l r x y (now names) (now lows) (now small) (now next) (now last)) ⌝ }
-    ensures { λ _. ⌜ ((n : ℕ) (rs : List Row) → Adds n rs p l r x y (now (names .entry)) (now (lows .entry)) (now (small .entry)) (now (next .entry)) (now (last .entry)) → Built n (rs ++ ((l, r, p) ∷ [])) (now (names .exit)) (now (lows .exit)) (now (small .exit)) (now (next .exit)) (now (last .exit))) ⌝ }
-    ensures { λ _. ⌜ now (names .exit) ≡ set (now (names .entry)) p (min x y) ⌝ }
+    requires { ⌜ ((n : ℕ) × (rs : List Row) × Adds n rs p l r a i (now names) (now lows) (now small) (now next) (now last)) ⌝ }
+    ensures { λ _. ⌜ ((n : ℕ) (rs : List Row) → Adds n rs p l r a i (now (names .entry)) (now (lows .entry)) (now (small .entry)) (now (next .entry)) (now (last .entry)) → Built n (rs ++ ((l, r, p) ∷ [])) (now (names .exit)) (now (lows .exit)) (now (small .exit)) (now (next .exit)) (now (last .exit))) ⌝ }
+    ensures { λ _. ⌜ now (names .exit) ≡ set (now (names .entry)) p a ⌝ }
 {
-    let a = lesser(x, y);
-    let i = greater(x, y);
     let k = lesser(lesser(i, wide(lows[l])), wide(lows[r]));
     let j = wide(last[k]);
     small[i] = a as u16;

@@ -4,7 +4,7 @@ use mathlib.Core.Path.{_≡_, refl, sym, ap, _∙_, subst}
 use mathlib.Core.List.{List, [], _∷_, _++_}
 use mathlib.Core.Option.{none}
 use mathlib.Core.Bool.{Bool, false}
-use Prim.Native.Nat.{ℕ, zero, suc, _+_, _-_, _≤_, _<_}
+use Prim.Native.Nat.{ℕ, zero, suc, _+_, _-_, _≤_, _<_, min, max}
 use native.Mathlib.Numerals.{add-one}
 use native.Mathlib.Omega.{arith}
 use lib.ListN.{length, getD, take, drop, length-take, take-append-drop}
@@ -65,7 +65,8 @@ added-start h l r s B = record {
 
 -- row t, with the children that stand at t, can be added
 adds : {n : ℕ} {left right : List ℕ} {t : ℕ} {names lows small next last : List ℕ} → Added n left right t names lows small next last → t < n - 1
-    → (rs : List Row) → Children n left right rs → Adds n (take t rs) (n + t) (getD left t 0) (getD right t 0) (cell names (getD left t 0)) (cell names (getD right t 0)) names lows small next last
+    → (rs : List Row) → Children n left right rs → Adds n (take t rs) (n + t) (getD left t 0) (getD right t 0)
+    (min (cell names (getD left t 0)) (cell names (getD right t 0))) (max (cell names (getD left t 0)) (cell names (getD right t 0))) names lows small next last
 adds {n} {left} {right} {t} {names} A h rs C =
     let c = C .count in
     let l : length (take t rs) ≡ t = omega (arith, length-take t rs) in
@@ -74,8 +75,8 @@ adds {n} {left} {right} {t} {names} A h rs C =
       built = A .built rs C;
       others = λ k a b. refl;
       same = refl;
-      first-name = refl;
-      second-name = refl;
+      smaller-name = refl;
+      larger-name = refl;
       count = ap (λ (k : ℕ). n + k) (sym l);
       row = rw l (subst (RowOk n t (taken (take t rs))) (C .each t h) (row-ok n rs t (C .accepted) (omega arith)));
     }
@@ -87,15 +88,17 @@ added-inside {t = t} A h p q =
     let c = A .some-rows .1 .count in
     omega (arith, a .row .first, a .row .second, a .built .names-room, A .few, length-take t (A .some-rows .0))
 
-pub some-adds : {n : ℕ} {left right : List ℕ} {t l r x y : ℕ} {names lows small next last : List ℕ} → Added n left right t names lows small next last → t < n - 1
-    → l ≡ getD left t 0 → r ≡ getD right t 0 → x ≡ cell names l → y ≡ cell names r → (m : ℕ) × (rs : List Row) × Adds m rs (n + t) l r x y names lows small next last
-some-adds {n} {t = t} A h p q u v = rw (u, v) (rw (p, q) (n, take t (A .some-rows .0), adds A h (A .some-rows .0) (A .some-rows .1)))
+pub some-adds : {n : ℕ} {left right : List ℕ} {t l r x y a i : ℕ} {names lows small next last : List ℕ} → Added n left right t names lows small next last → t < n - 1
+    → l ≡ getD left t 0 → r ≡ getD right t 0 → x ≡ cell names l → y ≡ cell names r → a ≡ min x y → i ≡ max x y
+    → (m : ℕ) × (rs : List Row) × Adds m rs (n + t) l r a i names lows small next last
+some-adds {n} {t = t} A h p q u v ea ei = rw (ea, ei) (rw (u, v) (rw (p, q) (n, take t (A .some-rows .0), adds A h (A .some-rows .0) (A .some-rows .1))))
 
-pub added-next : {n : ℕ} {left right : List ℕ} {t l r x y : ℕ} {names lows small next last names′ lows′ small′ next′ last′ : List ℕ}
+pub added-next : {n : ℕ} {left right : List ℕ} {t l r x y a i : ℕ} {names lows small next last names′ lows′ small′ next′ last′ : List ℕ}
     → Added n left right t names lows small next last → t < n - 1 → l ≡ getD left t 0 → r ≡ getD right t 0 → x ≡ cell names l → y ≡ cell names r
-    → ((m : ℕ) (rs : List Row) → Adds m rs (n + t) l r x y names lows small next last → Built m (rs ++ ((l, r, n + t) ∷ [])) names′ lows′ small′ next′ last′)
+    → a ≡ min x y → i ≡ max x y
+    → ((m : ℕ) (rs : List Row) → Adds m rs (n + t) l r a i names lows small next last → Built m (rs ++ ((l, r, n + t) ∷ [])) names′ lows′ small′ next′ last′)
     → Added n left right (t + 1) names′ lows′ small′ next′ last′
-added-next {n} {left} {right} {t} {l} {r} {x} {y} {names} {lows} {small} {next} {last} {names′ = a} {lows′ = b} {small′ = c} {next′ = d} {last′ = e} A h p q u v f = record {
+added-next {n} {left} {right} {t} {l} {r} {x} {y} {a = g} {i = j} {names} {lows} {small} {next} {last} {names′ = a} {lows′ = b} {small′ = c} {next′ = d} {last′ = e} A h p q u v ea ei f = record {
   so-far = omega arith;
   few = A .few;
   left-room = A .left-room;
@@ -103,7 +106,7 @@ added-next {n} {left} {right} {t} {l} {r} {x} {y} {names} {lows} {small} {next} 
   some-rows = A .some-rows;
   built = λ rs C.
       let k = C .count in
-      let ads : Adds n (take t rs) (n + t) l r x y names lows small next last = rw (u, v) (rw (p, q) (adds A h rs C)) in
+      let ads : Adds n (take t rs) (n + t) l r g j names lows small next last = rw (ea, ei) (rw (u, v) (rw (p, q) (adds A h rs C))) in
       let row : getD rs t (0, 0, 0) ≡ (l, r, n + t) = C .each t h ∙ (λ i. (sym p i, sym q i, n + t)) in
       let more : take t rs ++ ((l, r, n + t) ∷ []) ≡ take (t + 1) rs =
       ap (λ (x : Row). take t rs ++ (x ∷ [])) (sym row) ∙ sym (take-suc rs t (0, 0, 0) (omega arith)) ∙ ap (λ (j : ℕ). take j rs) (sym (add-one t)) in

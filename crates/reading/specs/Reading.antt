@@ -8,13 +8,13 @@ use mathlib.Core.Option.{none, some}
 use Prim.Native.Nat.{ℕ, suc, _+_, _-_, _*_, _≤_, _<_, min, max}
 use native.Mathlib.Numerals.{add-one}
 use native.Mathlib.Omega.{arith}
-use lib.Dec.{eqb, ltb, leb}
+use lib.Dec.{eqb, ltb}
 use lib.ListN.{length, getD, set, take, drop, length-take, length-set, take-append-drop}
 use lib.Seq.{getD-set-same, getD-set-other, take-all}
-use borrow.Author.Tests.{eqb-true, eqb-false, leb-true, leb-false}
+use borrow.Author.Tests.{eqb-true, eqb-false}
 use Rattle.rules.specs.Tree.{least}
 use Rattle.rules.specs.Table.{Row, rowsOf, namedTwice, rowFault, tableFault}
-use Rattle.basics.specs.Bools.{or-false, or-cases}
+use Rattle.basics.specs.Bools.{or-cases}
 use Rattle.clades.specs.Leaves.{least-has}
 use Rattle.rows.specs.Forest.{RowOk, namedIn, namedAlso, named-snoc, fault-append, fault-step}
 use Rattle.order.specs.Walk.{cell}
@@ -68,9 +68,8 @@ pub record Row-at (n : ℕ) (xs : List ℕ) (t l r p : ℕ) : Type 0 where
 zero-more : (j : ℕ) → 0 + j ≡ j
 zero-more j = omega arith
 
-after-or : (b : Bool) → b || true ≡ true
-after-or true = refl
-after-or false = refl
+other-name : (x y : ℕ) → x + y - max x y ≡ min x y
+other-name x y = omega arith
 
 row-of : (n : ℕ) (xs : List ℕ) (t l r p : ℕ) → Row-at n xs t l r p → rowAt xs t ≡ (l, r, p)
 unfolding rowAt
@@ -99,15 +98,20 @@ module _ {n : ℕ} {xs : List ℕ} {t l r p : ℕ} {names lows small next last :
       go true e = absurd (omega (arith, R .marked c e))
       go false e = refl
 
-  named : (c : ℕ) → c < n + t → 65535 ≤ cell names c → taken before c ≡ true
-  named c h l = go (taken before c) refl
+  -- a node not taken has a name
+  low : (c : ℕ) → c < n + t → taken before c ≡ false → cell names c < 1024
+  low c h e =
+      let k : c < n + length before = omega (arith, long) in
+      let B = R .built in
+      omega (arith, B .free c k e .name, B .forest .below c (least (nodes before c)) k (least-has (nodes before c)), R .few)
+
+  -- and a node that is taken the mark
+  high : (c : ℕ) → c < n + t → cell names c ≤ 65535
+  high c h = go (taken before c) refl
     where
-      go : (b : Bool) → taken before c ≡ b → b ≡ true
-      go true e = refl
-      go false e =
-          let k : c < n + length before = omega (arith, long) in
-          let B = R .built in
-          absurd (omega (arith, B .free c k e .name, B .forest .below c (least (nodes before c)) k (least-has (nodes before c)), R .few))
+      go : (b : Bool) → taken before c ≡ b → cell names c ≤ 65535
+      go true e = omega (arith, R .marked c e)
+      go false e = omega (arith, low c h e)
 
   -- x and y are what names has of its children; the first is marked before the second is looked up
   module _ {x y : ℕ} {names₁ names₂ : List ℕ} (ex : x ≡ cell names l) (e₁ : names₁ ≡ set names l 65535) (ey : y ≡ cell names₁ r) (e₂ : names₂ ≡ set names₁ r 65535) where
@@ -117,21 +121,32 @@ module _ {n : ℕ} {xs : List ℕ} {t l r p : ℕ} {names lows small next last :
     looked : y ≡ cell (set names l 65535) r
     looked = ey ∙ ap (λ (ys : List ℕ). cell ys r) e₁
 
-    -- a mark: a child is named before, or twice
-    pub reads-named : 65535 ≤ max x y → 7 ≡ verdict (taken before) (n + t) (l, r, p)
-    unfolding namedTwice
-    reads-named h = named-verdict (taken before) (n + t) (l, r, p) (in-place (n + t) (l, r, p) v) (go (leb 65535 x) refl (eqb l r) refl)
+    pub reads-few : x + y ≤ 131070
+    reads-few = go (eqb l r) refl
       where
-        go : (a : Bool) → leb 65535 x ≡ a → (b : Bool) → eqb l r ≡ b → taken before l || taken before r || eqb l r ≡ true
-        go true q b s = rw (named l (there .1) (omega (arith, leb-true 65535 x q)))
-        go false q true s = rw s (after-or (taken before l || taken before r))
-        go false q false s =
-            let e : y ≡ cell names r = looked ∙ getD-set-other names l r 65535 0 (λ z. eqb-false l r s (sym z)) in
-            let d = named r (there .2) (omega (arith, leb-false 65535 x q)) in
-            rw (d, s) (or-false (taken before l || true) ∙ after-or (taken before l))
+        go : (b : Bool) → eqb l r ≡ b → x + y ≤ 131070
+        go true q =
+            let e : y ≡ 65535 = looked ∙ ap (cell (set names l 65535)) (sym (eqb-true l r q)) ∙ getD-set-same names l 65535 0 (reads-inside .0) in
+            omega (arith, high l (there .1))
+        go false q =
+            let e : y ≡ cell names r = looked ∙ getD-set-other names l r 65535 0 (λ z. eqb-false l r q (sym z)) in
+            omega (arith, high l (there .1), high r (there .2))
+
+    -- a mark: a child is named before, or twice
+    pub reads-named : 65535 ≤ x + y → 7 ≡ verdict (taken before) (n + t) (l, r, p)
+    unfolding namedTwice
+    reads-named h = named-verdict (taken before) (n + t) (l, r, p) (in-place (n + t) (l, r, p) v) (go (taken before l) refl (taken before r) refl (eqb l r) refl)
+      where
+        go : (a : Bool) → taken before l ≡ a → (b : Bool) → taken before r ≡ b → (c : Bool) → eqb l r ≡ c → taken before l || taken before r || eqb l r ≡ true
+        go true q b s c w = rw q
+        go false q true s c w = rw (q, s)
+        go false q false s true w = rw (q, s, w)
+        go false q false s false w =
+            let e : y ≡ cell names r = looked ∙ getD-set-other names l r 65535 0 (λ z. eqb-false l r w (sym z)) in
+            absurd (omega (arith, low l (there .1) q, low r (there .2) s))
 
     -- no mark
-    module _ (h : max x y < 65535) where
+    module _ (h : x + y < 65535) where
       differ : l ≢ r
       differ e =
           let z : y ≡ 65535 = looked ∙ ap (cell (set names l 65535)) (sym e) ∙ getD-set-same names l 65535 0 (reads-inside .0) in
@@ -150,66 +165,68 @@ module _ {n : ℕ} {xs : List ℕ} {t l r p : ℕ} {names lows small next last :
         differ = differ;
       }
 
-      reads-adds : Adds n before (n + t) l r x y names₂ lows small next last
-      reads-adds = record {
-        before = names;
-        built = R .built;
-        others = λ k a b. ap (λ (ys : List ℕ). cell ys k) both ∙ getD-set-other (set names l 65535) r k 65535 0 b ∙ getD-set-other names l k 65535 0 a;
-        same = ap length both ∙ length-set (set names l 65535) r 65535 ∙ length-set names l 65535;
-        first-name = ex;
-        second-name = second;
-        count = ap (λ (j : ℕ). n + j) (sym long);
-        row = rw long row-fits;
-      }
+      -- i is the larger name
+      module _ {i : ℕ} (ei : i ≡ max x y) where
+        reads-adds : Adds n before (n + t) l r (x + y - i) i names₂ lows small next last
+        reads-adds = record {
+          before = names;
+          built = R .built;
+          others = λ k a b. ap (λ (ys : List ℕ). cell ys k) both ∙ getD-set-other (set names l 65535) r k 65535 0 b ∙ getD-set-other names l k 65535 0 a;
+          same = ap length both ∙ length-set (set names l 65535) r 65535 ∙ length-set names l 65535;
+          smaller-name = ap (λ (j : ℕ). x + y - j) ei ∙ other-name x y ∙ ap₂ min ex second;
+          larger-name = ei ∙ ap₂ max ex second;
+          count = ap (λ (j : ℕ). n + j) (sym long);
+          row = rw long row-fits;
+        }
 
-      pub adds-some : (m : ℕ) × (rs : List Row) × Adds m rs (n + t) l r x y names₂ lows small next last
-      adds-some = (n, before, reads-adds)
+        pub adds-some : (m : ℕ) × (rs : List Row) × Adds m rs (n + t) l r (x + y - i) i names₂ lows small next last
+        adds-some = (n, before, reads-adds)
 
-      -- a row more is read
-      pub reads-next : {names′ lows′ small′ next′ last′ : List ℕ} → names′ ≡ set names₂ (n + t) (min x y)
-          → ((m : ℕ) (rs : List Row) → Adds m rs (n + t) l r x y names₂ lows small next last
-          → Built m (rs ++ ((l, r, n + t) ∷ [])) names′ lows′ small′ next′ last′)
-          → Reads n xs (t + 1) names′ lows′ small′ next′ last′
-      reads-next {names′} {lows′} {small′} {next′} {last′} e f =
-          let row : rowAt xs t ≡ (l, r, n + t) = row-of n xs t l r p A ∙ ap (λ (q : ℕ). (l, r, q)) (there .0) in
-          let more : take (t + 1) (rowsOf xs) ≡ before ++ ((l, r, n + t) ∷ []) =
-          ap (λ (k : ℕ). take k (rowsOf xs)) (add-one t) ∙ rows-take (n - 1) xs t (R .count) (A .inside) ∙ ap (λ (q : Row). before ++ (q ∷ [])) row in
-          record {
-            some-leaf = R .some-leaf;
-            few = R .few;
-            count = R .count;
-            so-far = let i = A .inside in omega arith;
-            marked = λ c q. marks c (also c (sym (ap (λ (rs : List Row). taken rs c) more) ∙ q));
-            clean = ap (rowFault n 0 (λ c. false)) more ∙ fault-append n 0 (λ c. false) before ((l, r, n + t) ∷ []) (R .clean)
-                ∙ ap (λ (j : ℕ). rowFault n j (taken before) ((l, r, n + t) ∷ [])) (ap (λ (j : ℕ). 0 + j) long ∙ zero-more t)
-                ∙ fault-step n t (taken before) (l, r, n + t) [] row-fits ∙ unfold rowFault in refl;
-            built = subst (λ (rs : List Row). Built n rs names′ lows′ small′ next′ last′) (sym more) (f n before reads-adds);
-          }
-        where
-          also : (c : ℕ) → taken (before ++ ((l, r, n + t) ∷ [])) c ≡ true → (taken before c || eqb c l) || eqb c r ≡ true
-          also c q = unfold namedAlso in sym (ap (λ (g : ℕ → Bool). g c) (named-snoc (λ c. false) before (l, r, n + t))) ∙ q
+        -- a row more is read
+        pub reads-next : {names′ lows′ small′ next′ last′ : List ℕ} → names′ ≡ set names₂ (n + t) (x + y - i)
+            → ((m : ℕ) (rs : List Row) → Adds m rs (n + t) l r (x + y - i) i names₂ lows small next last
+            → Built m (rs ++ ((l, r, n + t) ∷ [])) names′ lows′ small′ next′ last′)
+            → Reads n xs (t + 1) names′ lows′ small′ next′ last′
+        reads-next {names′} {lows′} {small′} {next′} {last′} e f =
+            let row : rowAt xs t ≡ (l, r, n + t) = row-of n xs t l r p A ∙ ap (λ (q : ℕ). (l, r, q)) (there .0) in
+            let more : take (t + 1) (rowsOf xs) ≡ before ++ ((l, r, n + t) ∷ []) =
+            ap (λ (k : ℕ). take k (rowsOf xs)) (add-one t) ∙ rows-take (n - 1) xs t (R .count) (A .inside) ∙ ap (λ (q : Row). before ++ (q ∷ [])) row in
+            record {
+              some-leaf = R .some-leaf;
+              few = R .few;
+              count = R .count;
+              so-far = let i = A .inside in omega arith;
+              marked = λ c q. marks c (also c (sym (ap (λ (rs : List Row). taken rs c) more) ∙ q));
+              clean = ap (rowFault n 0 (λ c. false)) more ∙ fault-append n 0 (λ c. false) before ((l, r, n + t) ∷ []) (R .clean)
+                  ∙ ap (λ (j : ℕ). rowFault n j (taken before) ((l, r, n + t) ∷ [])) (ap (λ (j : ℕ). 0 + j) long ∙ zero-more t)
+                  ∙ fault-step n t (taken before) (l, r, n + t) [] row-fits ∙ unfold rowFault in refl;
+              built = subst (λ (rs : List Row). Built n rs names′ lows′ small′ next′ last′) (sym more) (f n before reads-adds);
+            }
+          where
+            also : (c : ℕ) → taken (before ++ ((l, r, n + t) ∷ [])) c ≡ true → (taken before c || eqb c l) || eqb c r ≡ true
+            also c q = unfold namedAlso in sym (ap (λ (g : ℕ → Bool). g c) (named-snoc (λ c. false) before (l, r, n + t))) ∙ q
 
-          other : (c : ℕ) → c < n + t → cell names′ c ≡ cell (set (set names l 65535) r 65535) c
-          other c k = ap (λ (ys : List ℕ). cell ys c) e ∙ getD-set-other names₂ (n + t) c (min x y) 0 (omega arith) ∙ ap (λ (ys : List ℕ). cell ys c) both
+            other : (c : ℕ) → c < n + t → cell names′ c ≡ cell (set (set names l 65535) r 65535) c
+            other c k = ap (λ (ys : List ℕ). cell ys c) e ∙ getD-set-other names₂ (n + t) c (x + y - i) 0 (omega arith) ∙ ap (λ (ys : List ℕ). cell ys c) both
 
-          is-second : (c : ℕ) → eqb c r ≡ true → cell names′ c ≡ 65535
-          is-second c q = rw (eqb-true c r q) (other r (there .2) ∙ getD-set-same (set names l 65535) r 65535 0 (let i = reads-inside in omega (arith, length-set names l 65535)))
+            is-second : (c : ℕ) → eqb c r ≡ true → cell names′ c ≡ 65535
+            is-second c q = rw (eqb-true c r q) (other r (there .2) ∙ getD-set-same (set names l 65535) r 65535 0 (let i = reads-inside in omega (arith, length-set names l 65535)))
 
-          is-first : (c : ℕ) → eqb c l ≡ true → cell names′ c ≡ 65535
-          is-first c q =
-              rw (eqb-true c l q)
-              (other l (there .1) ∙ getD-set-other (set names l 65535) r l 65535 0 differ ∙ getD-set-same names l 65535 0 (reads-inside .0))
+            is-first : (c : ℕ) → eqb c l ≡ true → cell names′ c ≡ 65535
+            is-first c q =
+                rw (eqb-true c l q)
+                (other l (there .1) ∙ getD-set-other (set names l 65535) r l 65535 0 differ ∙ getD-set-same names l 65535 0 (reads-inside .0))
 
-          is-old : (c : ℕ) → taken before c ≡ true → (a : Bool) → eqb c l ≡ a → (b : Bool) → eqb c r ≡ b → cell names′ c ≡ 65535
-          is-old c q true u b w = is-first c u
-          is-old c q false u true w = is-second c w
-          is-old c q false u false w =
-              other c (omega (arith, R .built .forest .early c q, long))
-              ∙ getD-set-other (set names l 65535) r c 65535 0 (eqb-false c r w) ∙ getD-set-other names l c 65535 0 (eqb-false c l u) ∙ R .marked c q
+            is-old : (c : ℕ) → taken before c ≡ true → (a : Bool) → eqb c l ≡ a → (b : Bool) → eqb c r ≡ b → cell names′ c ≡ 65535
+            is-old c q true u b w = is-first c u
+            is-old c q false u true w = is-second c w
+            is-old c q false u false w =
+                other c (omega (arith, R .built .forest .early c q, long))
+                ∙ getD-set-other (set names l 65535) r c 65535 0 (eqb-false c r w) ∙ getD-set-other names l c 65535 0 (eqb-false c l u) ∙ R .marked c q
 
-          marks : (c : ℕ) → (taken before c || eqb c l) || eqb c r ≡ true → cell names′ c ≡ 65535
-          marks c q = ⊎-elim (λ a. ⊎-elim (λ b. is-old c b (eqb c l) refl (eqb c r) refl) (is-first c) (or-cases (taken before c) (eqb c l) a)) (is-second c)
-              (or-cases (taken before c || eqb c l) (eqb c r) q)
+            marks : (c : ℕ) → (taken before c || eqb c l) || eqb c r ≡ true → cell names′ c ≡ 65535
+            marks c q = ⊎-elim (λ a. ⊎-elim (λ b. is-old c b (eqb c l) refl (eqb c r) refl) (is-first c) (or-cases (taken before c) (eqb c l) a)) (is-second c)
+                (or-cases (taken before c || eqb c l) (eqb c r) q)
 
 -- the first row that is refused is the fault of the table
 pub reads-fault : {n : ℕ} {xs : List ℕ} {t l r p : ℕ} {names lows small next last : List ℕ} → Reads n xs t names lows small next last

@@ -5,7 +5,7 @@ use mathlib.Core.Logic.{_≢_}
 use mathlib.Core.Bool.{true, false}
 use mathlib.Core.List.{List, _++_}
 use mathlib.Core.Option.{none, some}
-use Prim.Native.Nat.{ℕ, _+_, _-_, _≤_, max}
+use Prim.Native.Nat.{ℕ, _+_, _-_, _≤_}
 use native.Mathlib.Omega.{arith}
 use lib.Dec.{ltb}
 use lib.ListN.{take, drop, set}
@@ -47,7 +47,7 @@ read-placed {n} {xs} {t} {l} {r} {p} R A h e =
     read-fault R A (f ∙ placed-verdict (taken (take t (rowsOf xs))) (n + t) (l, r, p) d) (λ q. d (sym f ∙ q))
 
 pub read-named : {n : ℕ} {xs : List ℕ} {t l r p x y : ℕ} {names lows small next last names₁ names₂ names′ lows′ small′ next′ last′ : List ℕ} → Reads n xs t names lows small next last
-    → Row-at n xs t l r p → ltb 0 (placed (n + t) (l, r, p)) ≡ false → x ≡ cell names l → names₁ ≡ set names l 65535 → y ≡ cell names₁ r → names₂ ≡ set names₁ r 65535 → 65535 ≤ max x y
+    → Row-at n xs t l r p → ltb 0 (placed (n + t) (l, r, p)) ≡ false → x ≡ cell names l → names₁ ≡ set names l 65535 → y ≡ cell names₁ r → names₂ ≡ set names₁ r 65535 → 65535 ≤ x + y
     → HasRead n xs names′ lows′ small′ next′ last′ (record { number = 7; row = t })
 read-named R A v ex e₁ ey e₂ h = read-fault R A (reads-named R A v ex e₁ ey e₂ h) (omega arith)
 

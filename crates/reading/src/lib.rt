@@ -78,10 +78,12 @@ fn read_rows(
         }
         let x = take_name(names, l);
         let y = take_name(names, r);
-        if 65535 <= order::greater(x, y) {
+        let s = x + y;
+        if 65535 <= s {
             return Found { number: 7, row: t };
         }
-        order::add_pair(names, lows, small, next, last, p, l, r, x, y);
+        let i = order::greater(x, y);
+        order::add_pair(names, lows, small, next, last, p, l, r, s - i, i);
         t += 1;
     }
     Found { number: 0, row: 0 }
@@ -135,7 +137,9 @@ fn add_children(
         let r = wide(right[t]);
         let x = wide(names[l]);
         let y = wide(names[r]);
-        order::add_pair(names, lows, small, next, last, n + t, l, r, x, y);
+        let a = order::lesser(x, y);
+        let i = order::greater(x, y);
+        order::add_pair(names, lows, small, next, last, n + t, l, r, a, i);
         t += 1;
     }
 }

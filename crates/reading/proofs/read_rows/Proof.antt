@@ -1,6 +1,6 @@
 use mathlib.Core.Path.{_≡_, refl, sym, _∙_}
 use Prim.Native.Nat.{_-_}
-use Rattle.reading.specs.Reading.{Reads, Lengths, reads-inside, adds-some, reads-next}
+use Rattle.reading.specs.Reading.{Reads, Lengths, reads-inside, reads-few, adds-some, reads-next}
 use Rattle.reading.specs.Told.{read-placed, read-named, read-all}
 use native.Mathlib.Omega.{arith}
 use borrow.Author.Needs.{needs}
@@ -95,8 +95,8 @@ take-name-requires c κs = reads-inside (c .before .before .before .before .befo
 take-name-requires-2 : tie.Need-take-name-requires-2 Inv-loop μ-loop
 take-name-requires-2 c κs = omega (arith, c .before .before .before .take-name .kept, reads-inside (c .before .before .before .before .before .before .before .before .before .before .before .before .before .before .loop .inv .0) (record { inside = omega arith; first = sym (c .before .before .before .before .before .before .before .before .before .before .before .wide .ensures); second = sym (c .before .before .before .before .before .before .before .before .before .wide2 .ensures); parent = sym (c .before .before .before .before .before .before .before .wide3 .ensures) }) (sym (c .before .before .before .before .before .before .misplaced .ensures) ∙ c .before .before .before .before .before .if1 .left))
 
-greater-requires : tie.Need-greater-requires Inv-loop μ-loop
-greater-requires c κs = search needs
+add-s : tie.Need-add-s Inv-loop μ-loop
+add-s c = omega (arith, reads-few (c .before .before .before .before .before .before .before .before .before .before .before .before .before .before .before .before .before .loop .inv .0) (record { inside = omega arith; first = sym (c .before .before .before .before .before .before .before .before .before .before .before .before .before .before .wide .ensures); second = sym (c .before .before .before .before .before .before .before .before .before .before .before .before .wide2 .ensures); parent = sym (c .before .before .before .before .before .before .before .before .before .before .wide3 .ensures) }) (sym (c .before .before .before .before .before .before .before .before .before .misplaced .ensures) ∙ c .before .before .before .before .before .before .before .before .if1 .left) (c .before .before .before .before .before .before .take-name .ensures .0) (c .before .before .before .before .before .before .take-name .ensures .1) (c .before .before .take-name2 .ensures .0) (c .before .before .take-name2 .ensures .1))
 
 same-length-6 : tie.Need-same-length-6 Inv-loop μ-loop
 same-length-6 c = search needs
@@ -114,10 +114,16 @@ same-length-10 : tie.Need-same-length-10 Inv-loop μ-loop
 same-length-10 c = search needs
 
 returns-2 : tie.Need-returns-2 Inv-loop μ-loop
-returns-2 c = read-named (c .before .before .before .before .before .before .before .before .before .before .before .before .before .before .before .before .before .before .before .loop .inv .0) (record { inside = omega arith; first = sym (c .before .before .before .before .before .before .before .before .before .before .before .before .before .before .before .before .wide .ensures); second = sym (c .before .before .before .before .before .before .before .before .before .before .before .before .before .before .wide2 .ensures); parent = sym (c .before .before .before .before .before .before .before .before .before .before .before .before .wide3 .ensures) }) (sym (c .before .before .before .before .before .before .before .before .before .before .before .misplaced .ensures) ∙ c .before .before .before .before .before .before .before .before .before .before .if1 .left) (c .before .before .before .before .before .before .before .before .take-name .ensures .0) (c .before .before .before .before .before .before .before .before .take-name .ensures .1) (c .before .before .before .before .take-name2 .ensures .0) (c .before .before .before .before .take-name2 .ensures .1) (omega (arith, c .before .greater .ensures, c .if2 .taken))
+returns-2 c = read-named (c .before .before .before .before .before .before .before .before .before .before .before .before .before .before .before .before .before .before .loop .inv .0) (record { inside = omega arith; first = sym (c .before .before .before .before .before .before .before .before .before .before .before .before .before .before .before .wide .ensures); second = sym (c .before .before .before .before .before .before .before .before .before .before .before .before .before .wide2 .ensures); parent = sym (c .before .before .before .before .before .before .before .before .before .before .before .wide3 .ensures) }) (sym (c .before .before .before .before .before .before .before .before .before .before .misplaced .ensures) ∙ c .before .before .before .before .before .before .before .before .before .if1 .left) (c .before .before .before .before .before .before .before .take-name .ensures .0) (c .before .before .before .before .before .before .before .take-name .ensures .1) (c .before .before .before .take-name2 .ensures .0) (c .before .before .before .take-name2 .ensures .1) (c .if2 .taken)
+
+greater-requires : tie.Need-greater-requires Inv-loop μ-loop
+greater-requires c κs = search needs
+
+sub-add-pair : tie.Need-sub-add-pair Inv-loop μ-loop
+sub-add-pair c = omega (arith, c .before .before .before .before .before .greater .ensures)
 
 add-pair-requires : tie.Need-add-pair-requires Inv-loop μ-loop
-add-pair-requires c κs = adds-some (c .before .before .before .before .before .before .before .before .before .before .before .before .before .before .before .before .before .before .before .before .before .before .before .before .loop .inv .0) (record { inside = omega arith; first = sym (c .before .before .before .before .before .before .before .before .before .before .before .before .before .before .before .before .before .before .before .before .before .wide .ensures); second = sym (c .before .before .before .before .before .before .before .before .before .before .before .before .before .before .before .before .before .before .before .wide2 .ensures); parent = sym (c .before .before .before .before .before .before .before .before .before .before .before .before .before .before .before .before .before .wide3 .ensures) }) (sym (c .before .before .before .before .before .before .before .before .before .before .before .before .before .before .before .before .misplaced .ensures) ∙ c .before .before .before .before .before .before .before .before .before .before .before .before .before .before .before .if1 .left) (c .before .before .before .before .before .before .before .before .before .before .before .before .before .take-name .ensures .0) (c .before .before .before .before .before .before .before .before .before .before .before .before .before .take-name .ensures .1) (c .before .before .before .before .before .before .before .before .before .take-name2 .ensures .0) (c .before .before .before .before .before .before .before .before .before .take-name2 .ensures .1) (omega (arith, c .before .before .before .before .before .before .greater .ensures, c .before .before .before .before .before .if2 .left))
+add-pair-requires c κs = adds-some (c .before .before .before .before .before .before .before .before .before .before .before .before .before .before .before .before .before .before .before .before .before .before .before .before .loop .inv .0) (record { inside = omega arith; first = sym (c .before .before .before .before .before .before .before .before .before .before .before .before .before .before .before .before .before .before .before .before .before .wide .ensures); second = sym (c .before .before .before .before .before .before .before .before .before .before .before .before .before .before .before .before .before .before .before .wide2 .ensures); parent = sym (c .before .before .before .before .before .before .before .before .before .before .before .before .before .before .before .before .before .wide3 .ensures) }) (sym (c .before .before .before .before .before .before .before .before .before .before .before .before .before .before .before .before .misplaced .ensures) ∙ c .before .before .before .before .before .before .before .before .before .before .before .before .before .before .before .if1 .left) (c .before .before .before .before .before .before .before .before .before .before .before .before .before .take-name .ensures .0) (c .before .before .before .before .before .before .before .before .before .before .before .before .before .take-name .ensures .1) (c .before .before .before .before .before .before .before .before .before .take-name2 .ensures .0) (c .before .before .before .before .before .before .before .before .before .take-name2 .ensures .1) (c .before .before .before .before .before .before .if2 .left) (c .before .before .before .before .before .greater .ensures)
 
 add-t : tie.Need-add-t Inv-loop μ-loop
 add-t c = omega (arith, c .before .before .before .before .before .before .before .before .before .before .before .before .before .before .before .before .before .before .before .before .before .before .before .before .before .before .before .before .before .before .before .before .before .before .loop-test .taken, c .before .before .before .before .before .before .before .before .before .before .before .before .before .before .before .before .before .before .before .before .before .before .before .before .before .before .before .before .before .before .before .before .before .before .before .loop .inv .2, c .before .before .before .before .before .before .before .before .before .before .before .before .before .before .before .before .before .before .before .before .before .before .before .before .before .before .before .before .before .before .before .before .before .before .before .before .before .before .before .before .before .before .pre .few)
@@ -128,7 +134,7 @@ loop-less c = search needs
 loop-again : tie.Need-loop-again Inv-loop μ-loop
 loop-again c = (
   reads-next (c .before .before .before .before .before .before .before .before .before .before .before .before .before .before .before .before .before .before .before .before .before .before .before .before .before .before .before .before .before .before .before .before .before .before .before .loop .inv .0) (record { inside = omega arith; first = sym (c .before .before .before .before .before .before .before .before .before .before .before .before .before .before .before .before .before .before .before .before .before .before .before .before .before .before .before .before .before .before .before .before .wide .ensures); second = sym (c .before .before .before .before .before .before .before .before .before .before .before .before .before .before .before .before .before .before .before .before .before .before .before .before .before .before .before .before .before .before .wide2 .ensures); parent = sym (c .before .before .before .before .before .before .before .before .before .before .before .before .before .before .before .before .before .before .before .before .before .before .before .before .before .before .before .before .wide3 .ensures) }) (sym (c .before .before .before .before .before .before .before .before .before .before .before .before .before .before .before .before .before .before .before .before .before .before .before .before .before .before .before .misplaced .ensures) ∙ c .before .before .before .before .before .before .before .before .before .before .before .before .before .before .before .before .before .before .before .before .before .before .before .before .before .before .if1 .left) (c .before .before .before .before .before .before .before .before .before .before .before .before .before .before .before .before .before .before .before .before .before .before .before .before .take-name .ensures .0) (c .before .before .before .before .before .before .before .before .before .before .before .before .before .before .before .before .before .before .before .before .before .before .before .before .take-name .ensures .1) (c .before .before .before .before .before .before .before .before .before .before .before .before .before .before .before .before .before .before .before .before .take-name2 .ensures .0) (c .before .before .before .before .before .before .before .before .before .before .before .before .before .before .before .before .before .before .before .before .take-name2 .ensures .1)
-      (omega (arith, c .before .before .before .before .before .before .before .before .before .before .before .before .before .before .before .before .before .greater .ensures, c .before .before .before .before .before .before .before .before .before .before .before .before .before .before .before .before .if2 .left)) (c .before .before .before .before .before .before .before .before .before .before .add-pair .ensures .1) (c .before .before .before .before .before .before .before .before .before .before .add-pair .ensures .0),
+      (c .before .before .before .before .before .before .before .before .before .before .before .before .before .before .before .before .before .if2 .left) (c .before .before .before .before .before .before .before .before .before .before .before .before .before .before .before .before .greater .ensures) (c .before .before .before .before .before .before .before .before .before .before .add-pair .ensures .1) (c .before .before .before .before .before .before .before .before .before .before .add-pair .ensures .0),
   record { of-names = omega (arith, c .before .before .before .before .before .before .before .before .before .before .add-pair .kept, c .before .before .before .before .before .before .before .before .before .before .before .before .before .before .before .before .before .before .before .before .take-name2 .kept, c .before .before .before .before .before .before .before .before .before .before .before .before .before .before .before .before .before .before .before .before .before .before .before .before .take-name .kept, c .before .before .before .before .before .before .before .before .before .before .before .before .before .before .before .before .before .before .before .before .before .before .before .before .before .before .before .before .before .before .before .before .before .before .before .loop .inv .1 .of-names); of-lows = omega (arith, c .before .before .before .before .before .before .before .before .before .before .add-pair .kept, c .before .before .before .before .before .before .before .before .before .before .before .before .before .before .before .before .before .before .before .before .before .before .before .before .before .before .before .before .before .before .before .before .before .before .before .loop .inv .1 .of-lows); of-small = omega (arith, c .before .before .before .before .before .before .before .before .before .before .add-pair .kept, c .before .before .before .before .before .before .before .before .before .before .before .before .before .before .before .before .before .before .before .before .before .before .before .before .before .before .before .before .before .before .before .before .before .before .before .loop .inv .1 .of-small); of-next = omega (arith, c .before .before .before .before .before .before .before .before .before .before .add-pair .kept, c .before .before .before .before .before .before .before .before .before .before .before .before .before .before .before .before .before .before .before .before .before .before .before .before .before .before .before .before .before .before .before .before .before .before .before .loop .inv .1 .of-next); of-last = omega (arith, c .before .before .before .before .before .before .before .before .before .before .add-pair .kept, c .before .before .before .before .before .before .before .before .before .before .before .before .before .before .before .before .before .before .before .before .before .before .before .before .before .before .before .before .before .before .before .before .before .before .before .loop .inv .1 .of-last) },
   c .before .before .before .before .before .before .before .before .before .before .before .before .before .before .before .before .before .before .before .before .before .before .before .before .before .before .before .before .before .before .before .before .before .before .before .loop .inv .2,
 )
@@ -184,13 +190,15 @@ read-rows-spec =
     returns
     take-name-requires
     take-name-requires-2
-    greater-requires
+    add-s
     same-length-6
     same-length-7
     same-length-8
     same-length-9
     same-length-10
     returns-2
+    greater-requires
+    sub-add-pair
     add-pair-requires
     add-t
     loop-less
