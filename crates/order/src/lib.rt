@@ -132,9 +132,9 @@ pub fn greater(x: usize, y: usize) -> usize
     x
 }
 
-/// Adds the row of node p with the children l and r to the arrays; a and i are the smaller and the larger of their names. names and lows have the name and the key of each node; a
-/// leaf has no pair, and its key is 1024. The pair goes to the end of its key's chain: next[i] is still 0.
-/// next[0] belongs to no pair.
+/// Adds the row of node p with the children l and r to the arrays. a and i are the smaller and the larger of the children's names; names and
+/// lows have the name and the key of each node. A leaf has no pair, and its key is 1024. The pair goes to the end of its key's chain, and
+/// next[i] is 0 from the start; next[0] belongs to no pair.
 pub fn add_pair(
     names: &mut [u16],
     lows: &mut [u16],

@@ -53,6 +53,7 @@ fn take_name(names: &mut [u16], c: usize) -> usize
 }
 
 // Reads the rows of a table with n leaves: the first that is refused, or none, and then the arrays hold the tree.
+// A sum of two names tells whether one is a mark, since the others are below 1024.
 fn read_rows(
     n: usize,
     rows: &[u16],
