@@ -1,11 +1,17 @@
 // The C interface: one exported function a call. include/blathersike.h documents each.
 use rules::Answer;
 ghost use mathlib.Core.Path.{_≡_};
-ghost use Prim.Native.Nat.{min};
-ghost use lib.ListN.{length};
-ghost use Rattle.rules.specs.Answer.{Made, reads, answer, after};
-ghost use Rattle.rules.specs.Calls as calls;
-ghost use Rattle.capi.specs.Coded.{coded};
+ghost use Rattle.rules.specs.Answer.{reads};
+ghost use Rattle.rules.specs.CallCheck.{check-call};
+ghost use Rattle.rules.specs.CallToTable.{to-table-call};
+ghost use Rattle.rules.specs.CallFromTable.{from-table-call};
+ghost use Rattle.rules.specs.CallToNewick.{to-newick-call};
+ghost use Rattle.rules.specs.CallFromNewick.{from-newick-call};
+ghost use Rattle.rules.specs.CallPack.{pack-call};
+ghost use Rattle.rules.specs.CallUnpack.{unpack-call};
+ghost use Rattle.rules.specs.CallShuffle.{shuffle-call};
+ghost use Rattle.rules.specs.CallRelabel.{relabel-call};
+ghost use Rattle.rules.specs.Coded.{coded, Hands};
 
 // The two numbers of an answer.
 fn hand_back(given: Answer, back: &mut [u64; 2])
@@ -25,7 +31,7 @@ fn hand_back(given: Answer, back: &mut [u64; 2])
 // Whether v is a vector.
 #[no_mangle]
 pub extern "C" fn blathersike_check(v: &[u16], back: &mut [u64; 2])
-    ensures { λ r. ⌜ now (back .exit) ≡ coded (answer (calls.check (now (v .entry))) 0) ⌝ }
+    ensures { λ r. ⌜ Hands (check-call (now (v .entry))) tt (now (back .exit)) tt ⌝ }
 {
     hand_back(trees::check(v), back);
 }
@@ -33,8 +39,7 @@ pub extern "C" fn blathersike_check(v: &[u16], back: &mut [u64; 2])
 // Vector to merge table.
 #[no_mangle]
 pub extern "C" fn blathersike_to_table(v: &[u16], out: &mut [u16], back: &mut [u64; 2])
-    ensures { λ r. ⌜ now (back .exit) ≡ coded (answer (calls.toTable (now (v .entry))) (length (now (out .entry)))) ⌝ }
-    ensures { λ r. ⌜ now (out .exit) ≡ after (calls.toTable (now (v .entry))) (length (now (out .entry))) (now (out .entry)) ⌝ }
+    ensures { λ r. ⌜ Hands (to-table-call (now (v .entry))) (now (out .entry)) (now (back .exit)) (now (out .exit)) ⌝ }
 {
     hand_back(trees::to_table(v, out), back);
 }
@@ -47,8 +52,7 @@ pub extern "C" fn blathersike_from_table(
     out: &mut [u16],
     back: &mut [u64; 2],
 )
-    ensures { λ r. ⌜ now (back .exit) ≡ coded (answer (calls.fromTable leaves (now (rows .entry))) (length (now (out .entry)))) ⌝ }
-    ensures { λ r. ⌜ now (out .exit) ≡ after (calls.fromTable leaves (now (rows .entry))) (length (now (out .entry))) (now (out .entry)) ⌝ }
+    ensures { λ r. ⌜ Hands (from-table-call leaves (now (rows .entry))) (now (out .entry)) (now (back .exit)) (now (out .exit)) ⌝ }
 {
     hand_back(trees::from_table(leaves, rows, out), back);
 }
@@ -56,8 +60,7 @@ pub extern "C" fn blathersike_from_table(
 // Vector to Newick text.
 #[no_mangle]
 pub extern "C" fn blathersike_to_newick(v: &[u16], out: &mut [u8], back: &mut [u64; 2])
-    ensures { λ r. ⌜ now (back .exit) ≡ coded (answer (calls.toText (now (v .entry))) (length (now (out .entry)))) ⌝ }
-    ensures { λ r. ⌜ now (out .exit) ≡ after (calls.toText (now (v .entry))) (length (now (out .entry))) (now (out .entry)) ⌝ }
+    ensures { λ r. ⌜ Hands (to-newick-call (now (v .entry))) (now (out .entry)) (now (back .exit)) (now (out .exit)) ⌝ }
 {
     hand_back(trees::to_newick(v, out), back);
 }
@@ -65,7 +68,7 @@ pub extern "C" fn blathersike_to_newick(v: &[u16], out: &mut [u8], back: &mut [u
 // Newick text to vector.
 #[no_mangle]
 pub extern "C" fn blathersike_from_newick(text: &[u8], out: &mut [u16], back: &mut [u64; 2])
-    ensures { λ r. ⌜ ((m : Made) × calls.FromText (now (text .entry)) m × (now (back .exit) ≡ coded (answer m (length (now (out .entry))))) × (now (out .exit) ≡ after m (length (now (out .entry))) (now (out .entry)))) ⌝ }
+    ensures { λ r. ⌜ Hands (from-newick-call (now (text .entry))) (now (out .entry)) (now (back .exit)) (now (out .exit)) ⌝ }
 {
     hand_back(trees::from_newick(text, out), back);
 }
@@ -73,8 +76,7 @@ pub extern "C" fn blathersike_from_newick(text: &[u8], out: &mut [u16], back: &m
 // Vector to packed record.
 #[no_mangle]
 pub extern "C" fn blathersike_pack(v: &[u16], out: &mut [u8], back: &mut [u64; 2])
-    ensures { λ r. ⌜ now (back .exit) ≡ coded (answer (calls.pack (now (v .entry))) (length (now (out .entry)))) ⌝ }
-    ensures { λ r. ⌜ now (out .exit) ≡ after (calls.pack (now (v .entry))) (length (now (out .entry))) (now (out .entry)) ⌝ }
+    ensures { λ r. ⌜ Hands (pack-call (now (v .entry))) (now (out .entry)) (now (back .exit)) (now (out .exit)) ⌝ }
 {
     hand_back(trees::pack(v, out), back);
 }
@@ -82,8 +84,7 @@ pub extern "C" fn blathersike_pack(v: &[u16], out: &mut [u8], back: &mut [u64; 2
 // Packed record to vector.
 #[no_mangle]
 pub extern "C" fn blathersike_unpack(s: &[u8], out: &mut [u16], back: &mut [u64; 2])
-    ensures { λ r. ⌜ now (back .exit) ≡ coded (answer (calls.unpack (now (s .entry))) (length (now (out .entry)))) ⌝ }
-    ensures { λ r. ⌜ now (out .exit) ≡ after (calls.unpack (now (s .entry))) (length (now (out .entry))) (now (out .entry)) ⌝ }
+    ensures { λ r. ⌜ Hands (unpack-call (now (s .entry))) (now (out .entry)) (now (back .exit)) (now (out .exit)) ⌝ }
 {
     hand_back(trees::unpack(s, out), back);
 }
@@ -96,9 +97,7 @@ pub extern "C" fn blathersike_shuffle(
     out: &mut [u16],
     back: &mut [u64; 2],
 )
-    ensures { λ r. ⌜ now (back .exit) ≡ coded (answer (calls.shuffleNew (now (v .entry))) (min (length (now (new .entry))) (length (now (out .entry))))) ⌝ }
-    ensures { λ r. ⌜ now (new .exit) ≡ after (calls.shuffleNew (now (v .entry))) (min (length (now (new .entry))) (length (now (out .entry)))) (now (new .entry)) ⌝ }
-    ensures { λ r. ⌜ now (out .exit) ≡ after (calls.shuffleVector (now (v .entry))) (min (length (now (new .entry))) (length (now (out .entry)))) (now (out .entry)) ⌝ }
+    ensures { λ r. ⌜ Hands (shuffle-call (now (v .entry))) (now (new .entry), now (out .entry)) (now (back .exit)) (now (new .exit), now (out .exit)) ⌝ }
 {
     hand_back(trees::shuffle(v, new, out), back);
 }
@@ -106,8 +105,7 @@ pub extern "C" fn blathersike_shuffle(
 // The vector of the tree with leaf x relabelled p(x).
 #[no_mangle]
 pub extern "C" fn blathersike_relabel(v: &[u16], p: &[u16], out: &mut [u16], back: &mut [u64; 2])
-    ensures { λ r. ⌜ now (back .exit) ≡ coded (answer (calls.relabel (now (v .entry)) (now (p .entry))) (length (now (out .entry)))) ⌝ }
-    ensures { λ r. ⌜ now (out .exit) ≡ after (calls.relabel (now (v .entry)) (now (p .entry))) (length (now (out .entry))) (now (out .entry)) ⌝ }
+    ensures { λ r. ⌜ Hands (relabel-call (now (v .entry)) (now (p .entry))) (now (out .entry)) (now (back .exit)) (now (out .exit)) ⌝ }
 {
     hand_back(trees::relabel(v, p, out), back);
 }

@@ -17,7 +17,10 @@ use Rattle.rules.specs.Table.{rowsOf, tableFault, tableTree, TableClade}
 use Rattle.rules.specs.Newick.{Text, labelsOf, labelFault}
 use Rattle.rules.specs.Record.{recordLength, leafCount, entriesOf, anySet, padding}
 use Rattle.rules.specs.Answer.{Made, made}
-use Rattle.rules.specs.Calls.{check, fromTable, FromText, too-long, breaks, reads-as, fromLabels, unpack}
+use Rattle.rules.specs.CallCheck.{check}
+use Rattle.rules.specs.CallFromTable.{fromTable}
+use Rattle.rules.specs.CallFromNewick.{FromText, too-long, breaks, reads-as, fromLabels}
+use Rattle.rules.specs.CallUnpack.{unpack}
 use Rattle.table_laws.specs.Flat.{rowsOf-length}
 use Rattle.rows.specs.Forest.{rows-make-a-tree}
 use Rattle.rows.specs.Clades.{rows-clades}
@@ -26,14 +29,14 @@ use Rattle.grammar.specs.Complete.{text-unique}
 use Rattle.grammar.specs.Faults.{no-fault-leaves}
 use Rattle.laws.specs.FromTable.{rows-accepted}
 use Rattle.laws.specs.OneToOne.{every-tree, same-clades-same-vector}
-use Rattle.demands.specs.Given.{CountWrong, CountRight, WithinBounds, First, Above, Unfit, labelNumbers, labelPlace, FirstRow, RowWrong, TableRefused, table-1, table-2, table-row, RecordRefused, record-short, record-1, record-2, record-4, record-10, TextRefused, text-1, text-9}
+use Rattle.demands.specs.Given.{CountWrong, CountRight, WithinBounds, First, Above, Unfit, labelNumbers, labelPlace, FirstRow, RowWrong}
 use Rattle.demands.specs.FirstPlace.{Found, label-found, padding-found}
 use Rattle.demands.specs.FirstWrongRow.{row-found}
-use Rattle.demands.specs.Settled.{count-cases, equal-cases, above-cases}
-use Rattle.demands.specs.SettledTable.{settled-from-table}
-use Rattle.demands.specs.SettledRecord.{settled-unpack, entries-made}
-use Rattle.demands.specs.SettledText.{labels-fit, settled-from-text}
-use Rattle.demands.specs.Answered.{Accepted, made-accepted, made-not-refuses}
+use Rattle.demands.specs.Cases.{count-cases, equal-cases, above-cases}
+use Rattle.demands.specs.Law.{Accepted, made-accepted, made-not-refuses}
+use Rattle.demands.specs.LawFromTable.{TableRefused, table-1, table-2, table-row, lawful-from-table}
+use Rattle.demands.specs.LawFromNewick.{TextRefused, text-1, text-9, labels-fit, lawful-from-newick}
+use Rattle.demands.specs.LawUnpack.{RecordRefused, record-short, record-1, record-2, record-4, record-10, entries-made, lawful-unpack}
 use Rattle.demands.specs.Leads.{Input, vector, table, text, packed, Leads}
 use Rattle.demands.specs.DemandTwo.{Vector, accepted-exactly}
 
@@ -65,7 +68,7 @@ table-leads : (n : ℕ) (xs w : List ℕ) → fromTable n xs ≡ made w
 table-leads n xs w e = go (count-cases n) (equal-cases (length xs) (3 * (n - 1))) (row-found n (rowsOf xs))
   where
     right : Accepted (TableRefused n xs)
-    right = made-accepted (TableRefused n xs) n (fromTable n xs) (settled-from-table n xs) 0 w e
+    right = made-accepted _ _ _ (lawful-from-table n xs) (fromTable n xs) refl w e
 
     go : CountWrong n ⊎ CountRight n → ((length xs ≡ 3 * (n - 1) → ⊥)) ⊎ (length xs ≡ 3 * (n - 1))
         → ((t : ℕ) × (k : ℕ) × (tableFault n (rowsOf xs) ≡ some (k, t)) × FirstRow n (rowsOf xs) k t)
@@ -96,7 +99,7 @@ text-leads s w m (breaks a b) e = absurd (made-not-refuses (sym e))
 text-leads s w m (reads-as t a b) e = go (count-cases (length (labelsOf s))) (label-found (length (labelsOf s)) (labelsOf s))
   where
     right : Accepted (TextRefused s)
-    right = made-accepted (TextRefused s) (length (labelsOf s)) (fromLabels s t) (settled-from-text s (fromLabels s t) (reads-as t a b)) 0 w e
+    right = made-accepted _ _ _ (lawful-from-newick s) (fromLabels s t) (reads-as t a b) w e
 
     go : CountWrong (length (labelsOf s)) ⊎ CountRight (length (labelsOf s))
         → Found (labelPlace s) (Unfit (length (labelsOf s)) (labelNumbers s)) (labelFault (length (labelsOf s)) [] (labelsOf s))
@@ -129,7 +132,7 @@ led-packed s w h =
     (above-cases (entriesOf (leafCount s) s)) (anySet (padding (leafCount s) s)) refl
   where
     right : Accepted (RecordRefused s)
-    right = made-accepted (RecordRefused s) (leafCount s) (unpack s) (settled-unpack s) 0 w h
+    right = made-accepted _ _ _ (lawful-unpack s) (unpack s) refl w h
 
     go : (b : Bool) → ltb (length s) 2 ≡ b → CountWrong (leafCount s) ⊎ CountRight (leafCount s)
         → (length s ≢ recordLength (leafCount s)) ⊎ (length s ≡ recordLength (leafCount s))
@@ -170,7 +173,7 @@ demand-three a b v w p q =
 
 -- "every rooted binary tree with leaves 0 to n-1 .. is the tree of a vector", which is accepted and has an entry for each leaf
 pub every-tree-has-a-vector : (n : ℕ) (t : Tree) → LeavesBelow n t → n ≤ 1024
-    → (v : List ℕ) × (check v ≡ made []) × (length v ≡ n) × SameClades (treeOf v) t
+    → (v : List ℕ) × (check v ≡ made tt) × (length v ≡ n) × SameClades (treeOf v) t
 every-tree-has-a-vector n t L l =
     let E = every-tree n t L in
     let W = of-tree n t L l in

@@ -1,13 +1,13 @@
 -- Demand 2: "The tree of a vector is the one the paper's building rule gives; vector, table, packed record and text of a tree are the ones the
 -- rules fix; turned back, each gives the vector it came from."
 -- Main definitions: Vector, Writes, Notations. Main results: accepted-exactly, table-back, text-back, record-back, demand-two.
-use mathlib.Core.List.{List, [], _++_}
+use mathlib.Core.List.{List, []}
 use mathlib.Core.Logic.{_⊎_, inl, inr, _↔_}
 use mathlib.Core.Option.{none}
-use mathlib.Core.Path.{_≡_, ap, _∙_, subst}
+use mathlib.Core.Path.{_≡_, refl, ap, _∙_, subst}
 use Prim.Native.Nat.{ℕ, suc, _≤_}
 use native.Mathlib.Omega.{arith}
-use lib.ListN.{length, drop}
+use lib.ListN.{length}
 use Rattle.rules.specs.declared.Answer.{Answer}
 use Rattle.rules.specs.Vector.{Valid}
 use Rattle.rules.specs.Building.{merges}
@@ -16,8 +16,14 @@ use Rattle.rules.specs.Order.{vectorOf}
 use Rattle.rules.specs.Table.{rowsFrom, tableRows, tableOf, rowsOf}
 use Rattle.rules.specs.Newick.{textOf, Text, labelsOf, labelFault}
 use Rattle.rules.specs.Record.{recordOf}
-use Rattle.rules.specs.Answer.{done, reads, Made, made, answer, after}
-use Rattle.rules.specs.Calls.{fromVector, check, toTable, fromTable, toText, FromText, reads-as, pack, unpack}
+use Rattle.rules.specs.Answer.{done, reads, made}
+use Rattle.rules.specs.CallCheck.{check}
+use Rattle.rules.specs.CallToTable.{toTable}
+use Rattle.rules.specs.CallFromTable.{fromTable}
+use Rattle.rules.specs.CallToNewick.{toText}
+use Rattle.rules.specs.CallFromNewick.{FromText, reads-as}
+use Rattle.rules.specs.CallPack.{pack}
+use Rattle.rules.specs.CallUnpack.{unpack}
 use Rattle.building.specs.InOrder.{merges-in-order}
 use Rattle.building.specs.Built.{merges-length}
 use Rattle.table_laws.specs.Flat.{rowsOf-flat}
@@ -27,14 +33,16 @@ use Rattle.record_laws.specs.Inverse.{unpack-record}
 use Rattle.grammar.specs.Written.{leaves-text}
 use Rattle.grammar.specs.Faults.{leaves-no-fault, leaves-count}
 use Rattle.grammar.specs.Length.{text-length, text-length-most}
-use Rattle.grammar.specs.Unique.{from-text-unique}
 use Rattle.laws.specs.TreeOf.{tree-leaves, tree-form, vector-again}
 use Rattle.laws.specs.FromTable.{rows-accepted}
-use Rattle.demands.specs.Promise.{one, vector-to-table, table-to-vector, vector-to-text, text-to-vector, packs, unpacks, Promise}
-use Rattle.demands.specs.Given.{CountRight, WithinBounds, VectorRefused}
-use Rattle.demands.specs.Settled.{vector-cases, vector-passes, vector-valid, settled-check, table-long}
-use Rattle.demands.specs.SettledText.{labels-fit}
-use Rattle.demands.specs.Answered.{made-accepted, written}
+use Rattle.demands.specs.Given.{CountRight, WithinBounds}
+use Rattle.demands.specs.Law.{made-accepted, done-written}
+use Rattle.demands.specs.LawVector.{VectorRefused, vector-cases, vector-passes, vector-valid}
+use Rattle.demands.specs.LawCheck.{lawful-check}
+use Rattle.demands.specs.LawFromNewick.{labels-fit}
+use Rattle.demands.specs.Long.{table-long}
+use Rattle.demands.specs.Calls.{Public, to-table, from-table, to-newick, from-newick, packs, unpacks, the, Lent, Kept}
+use Rattle.demands.specs.DemandOne.{room}
 
 -- the vectors that the demand is about
 pub record Vector (v : List ℕ) : Type 0 where
@@ -42,12 +50,12 @@ pub record Vector (v : List ℕ) : Type 0 where
   pub few : length v ≤ 1024
 
 -- they are those that check accepts
-pub accepted-exactly : (v : List ℕ) → (check v ≡ made []) ↔ Vector v
+pub accepted-exactly : (v : List ℕ) → (check v ≡ made tt) ↔ Vector v
 unfolding check
-accepted-exactly v = (λ e. go e (vector-cases v), λ W. vector-passes v (made []) (W .valid .some-leaf, W .few) (W .valid .bounded))
+accepted-exactly v = (λ e. go e (vector-cases v), λ W. vector-passes {W = Unit {0}} v (made tt) (W .valid .some-leaf, W .few) (W .valid .bounded))
   where
-    go : fromVector v (made []) ≡ made [] → ((k : ℕ) × (p : ℕ) × VectorRefused v k p) ⊎ (CountRight (length v) × WithinBounds v) → Vector v
-    go e (inl r) = absurd (made-accepted (VectorRefused v) 0 (fromVector v (made [])) (settled-check v) 0 [] e (r .0) (r .1) (r .2))
+    go : check v ≡ made tt → ((k : ℕ) × (p : ℕ) × VectorRefused v k p) ⊎ (CountRight (length v) × WithinBounds v) → Vector v
+    go e (inl r) = absurd (made-accepted _ _ _ (lawful-check v) (check v) refl tt e (r .0) (r .1) (r .2))
     go e (inr h) = record { valid = vector-valid v (h .0) (h .1); few = h .0 .1 }
 
 -- what each notation of a vector is
@@ -94,35 +102,32 @@ text-back v W =
 pub record-back : (v : List ℕ) → Vector v → unpack (recordOf v) ≡ made v
 record-back v W = unpack-record v (W .valid) (W .few)
 
--- where there is room a call is done and says how many elements it wrote; its buffer holds them, and behind them what it held
-abbrev pub Writes : (List ℕ → Answer → List ℕ → Type 0) → List ℕ → Type 0
-Writes Promised xs = (old new : List ℕ) (a : Answer) → Promised old a new → length xs ≤ length old
-    → (reads a ≡ done (length xs)) × (new ≡ xs ++ drop (length xs) old)
+-- where there is room a call is done and says how many elements it wrote; its buffers hold them, and behind them what they held
+abbrev pub Writes : (c : Public) → the c .Written → Type 0
+Writes c x = (old new : Lent c) (a : Answer) → Kept c old a new → the c .call .buffers .count x ≤ room c old
+    → (reads a ≡ done (the c .call .buffers .count x)) × (new ≡ the c .call .buffers .write x old)
 
-pub writes : (xs old new : List ℕ) (a : Answer) (m : Made) → m ≡ made xs → reads a ≡ answer m (length old) → new ≡ after m (length old) old → length xs ≤ length old
-    → (reads a ≡ done (length xs)) × (new ≡ xs ++ drop (length xs) old)
-writes xs old new a m e r h l =
-    let w = written xs (length old) old l in
-    (r ∙ ap (λ (x : Made). answer x (length old)) e ∙ w .0, h ∙ ap (λ (x : Made). after x (length old) old) e ∙ w .1)
+pub writes : (c : Public) (x : the c .Written) → the c .call .Makes (made x) → Writes c x
+writes c x h old new a K l = done-written (the c .call) (the c .Wrong) (the c .wanted) (the c .law) x h old a new K l
 
 -- the notations of a vector's tree, each of them turned back
 pub record Notations (v : List ℕ) : Type 0 where
-  pub to-table : Writes (Promise (one (vector-to-table v))) (tableOf v)
-  pub to-text : Writes (Promise (one (vector-to-text v))) (textOf (treeOf v))
-  pub to-record : Writes (Promise (one (packs v))) (recordOf v)
-  pub from-table : Writes (Promise (one (table-to-vector (length v) (tableOf v)))) v
-  pub from-text : Writes (Promise (one (text-to-vector (textOf (treeOf v))))) v
-  pub from-record : Writes (Promise (one (unpacks (recordOf v)))) v
-  pub from-tree : vectorOf (treeOf v) ≡ v
+  pub table-written : Writes (to-table v) (tableOf v)
+  pub text-written : Writes (to-newick v) (textOf (treeOf v))
+  pub record-written : Writes (packs v) (recordOf v)
+  pub table-turned-back : Writes (from-table (length v) (tableOf v)) v
+  pub text-turned-back : Writes (from-newick (textOf (treeOf v))) v
+  pub record-turned-back : Writes (unpacks (recordOf v)) v
+  pub tree-turned-back : vectorOf (treeOf v) ≡ v
 
 -- for every valid vector of 1 to 1,024 entries
 pub demand-two : (v : List ℕ) → Vector v → Notations v
 demand-two v W = record {
-  to-table = λ old new a P. writes (tableOf v) old new a (P .what) (P .makes ∙ makes-table v W) (P .answers) (P .holds);
-  to-text = λ old new a P. writes (textOf (treeOf v)) old new a (P .what) (P .makes ∙ makes-text v W) (P .answers) (P .holds);
-  to-record = λ old new a P. writes (recordOf v) old new a (P .what) (P .makes ∙ makes-record v W) (P .answers) (P .holds);
-  from-table = λ old new a P. writes v old new a (P .what) (P .makes ∙ table-back v W) (P .answers) (P .holds);
-  from-text = λ old new a P. writes v old new a (P .what) (from-text-unique (P .makes) (text-back v W)) (P .answers) (P .holds);
-  from-record = λ old new a P. writes v old new a (P .what) (P .makes ∙ record-back v W) (P .answers) (P .holds);
-  from-tree = vector-again v (W .valid);
+  table-written = writes (to-table v) (tableOf v) (makes-table v W);
+  text-written = writes (to-newick v) (textOf (treeOf v)) (makes-text v W);
+  record-written = writes (packs v) (recordOf v) (makes-record v W);
+  table-turned-back = writes (from-table (length v) (tableOf v)) v (table-back v W);
+  text-turned-back = writes (from-newick (textOf (treeOf v))) v (text-back v W);
+  record-turned-back = writes (unpacks (recordOf v)) v (record-back v W);
+  tree-turned-back = vector-again v (W .valid);
 }

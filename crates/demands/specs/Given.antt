@@ -1,15 +1,14 @@
--- When each refusal is given, in 01's words and order: one definition for each line of "What comes back", one table for each kind of input.
--- Main definitions: First, CountWrong, Above, Unfit, WrongRow, PaddingSet; VectorRefused, RelabelRefused, TableRefused, TextRefused, RecordRefused.
+-- When a refusal is given, in 01's words: what several calls share. What one call alone refuses stands in its own file, Law*.
+-- Main definitions: First, CountWrong, Above, Unfit; RowWrong, FirstRow (5, 6, 7), PaddingSet (10), labelNumbers, labelPlace (9).
 use mathlib.Core.List.{List, map}
 use mathlib.Core.Logic.{_≢_, _⊎_}
 use mathlib.Core.Path.{_≡_}
-use Prim.Native.Nat.{ℕ, _+_, _-_, _*_, _≤_, _<_}
+use Prim.Native.Nat.{ℕ, _+_, _≤_, _<_}
 use lib.ListN.{length, getD}
 use Rattle.rules.specs.Vector.{entry, bound}
-use Rattle.rules.specs.Table.{Row, rowsOf}
-use Rattle.rules.specs.Tree.{Tree}
-use Rattle.rules.specs.Newick.{Text, BreaksAt, Placed, labelsOf}
-use Rattle.rules.specs.Record.{recordLength, leafCount, entriesOf, bitsOf, total}
+use Rattle.rules.specs.Table.{Row}
+use Rattle.rules.specs.Newick.{Placed, labelsOf}
+use Rattle.rules.specs.Record.{bitsOf, total}
 
 -- "Of one number, the first place counts."
 abbrev pub First : (ℕ → Type 0) → ℕ → Type 0
@@ -65,38 +64,3 @@ labelNumbers s = map (λ (l : Placed). l .1) (labelsOf s)
 
 abbrev pub labelPlace : List ℕ → ℕ → ℕ
 labelPlace s i = getD (labelsOf s) i (0, 0) .0
-
--- "From a vector: 1, 4"
-pub data VectorRefused (v : List ℕ) : ℕ → ℕ → Type 0 where
-  vector-1 : CountWrong (length v) → VectorRefused v 1 0
-  vector-4 : {i : ℕ} → CountRight (length v) → First (Above v) i → VectorRefused v 4 i
-
--- "then for relabelling 2 (permutation length not n) and 11"
-pub data RelabelRefused (v p : List ℕ) : ℕ → ℕ → Type 0 where
-  relabel-vector : {number i : ℕ} → VectorRefused v number i → RelabelRefused v p number i
-  relabel-2 : CountRight (length v) → WithinBounds v → length p ≢ length v → RelabelRefused v p 2 (length v)
-  relabel-11 : {i : ℕ} → CountRight (length v) → WithinBounds v → length p ≡ length v → First (Unfit (length v) p) i → RelabelRefused v p 11 i
-
--- "Table: 1, 2 (length not 3(n-1)), rows upward with 5, 6, 7 in each"
-pub data TableRefused (n : ℕ) (xs : List ℕ) : ℕ → ℕ → Type 0 where
-  table-1 : CountWrong n → TableRefused n xs 1 0
-  table-2 : CountRight n → length xs ≢ 3 * (n - 1) → TableRefused n xs 2 (3 * (n - 1))
-  table-row : {number t : ℕ} → CountRight n → length xs ≡ 3 * (n - 1) → FirstRow n (rowsOf xs) number t → TableRefused n xs number t
-
--- "Text: 2 (above 6,056 bytes, place 6056), 8, 1, 9"; 8 is given at BreaksAt's place
-pub data TextRefused (s : List ℕ) : ℕ → ℕ → Type 0 where
-  text-2 : 6056 < length s → TextRefused s 2 6056
-  text-8 : {place : ℕ} → length s ≤ 6056 → BreaksAt s place → TextRefused s 8 place
-  text-1 : {t : Tree} → length s ≤ 6056 → Text s t → CountWrong (length (labelsOf s)) → TextRefused s 1 0
-  text-9 : {t : Tree} {i : ℕ} → length s ≤ 6056 → Text s t → CountRight (length (labelsOf s))
-      → First (Unfit (length (labelsOf s)) (labelNumbers s)) i → TextRefused s 9 (labelPlace s i)
-
--- "Unpacking: 2 (under 2 bytes, place 2), 1, 2 (not the record's byte length), 4, 10"; the place of 10 is the last byte's number
-pub data RecordRefused (s : List ℕ) : ℕ → ℕ → Type 0 where
-  record-short : length s < 2 → RecordRefused s 2 2
-  record-1 : 2 ≤ length s → CountWrong (leafCount s) → RecordRefused s 1 0
-  record-2 : 2 ≤ length s → CountRight (leafCount s) → length s ≢ recordLength (leafCount s) → RecordRefused s 2 (recordLength (leafCount s))
-  record-4 : {i : ℕ} → 2 ≤ length s → CountRight (leafCount s) → length s ≡ recordLength (leafCount s)
-      → First (Above (entriesOf (leafCount s) s)) i → RecordRefused s 4 i
-  record-10 : 2 ≤ length s → CountRight (leafCount s) → length s ≡ recordLength (leafCount s)
-      → WithinBounds (entriesOf (leafCount s) s) → PaddingSet (leafCount s) s → RecordRefused s 10 (length s - 1)

@@ -35,15 +35,23 @@
 --
 -- The other files are on the way there: FirstPlace and FirstWrongRow (the searches of the rules find the first place), Settled and its three
 -- companions (what a call makes, from the conditions), Answered (what comes back of it).
-pub mod Promise
 pub mod Given
 pub mod FirstPlace
 pub mod FirstWrongRow
-pub mod Settled
-pub mod SettledTable
-pub mod SettledRecord
-pub mod SettledText
-pub mod Answered
+pub mod Cases
+pub mod Law
+pub mod LawVector
+pub mod Long
+pub mod LawCheck
+pub mod LawToTable
+pub mod LawFromTable
+pub mod LawToNewick
+pub mod LawFromNewick
+pub mod LawPack
+pub mod LawUnpack
+pub mod LawShuffle
+pub mod LawRelabel
+pub mod Calls
 pub mod DemandOne
 pub mod DemandTwo
 pub mod Leads

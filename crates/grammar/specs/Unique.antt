@@ -13,7 +13,7 @@ use borrow.Author.Tests.{ltb-true, ltb-false}
 use Rattle.rules.specs.Newick.{Text, Begins, BreaksAt, broken, ended}
 use Rattle.rules.specs.Tree.{Tree}
 use Rattle.rules.specs.Answer.{Made, refuses}
-use Rattle.rules.specs.Calls.{FromText, too-long, breaks, reads-as, fromLabels}
+use Rattle.rules.specs.CallFromNewick.{FromText, too-long, breaks, reads-as, fromLabels}
 use Rattle.grammar.specs.Complete.{text-unique, decided}
 
 -- what a text begins with, begins with less

@@ -7,46 +7,46 @@ use mathlib.Core.Path.{_≡_}
 use Prim.Native.Nat.{ℕ, _≤_, _<_}
 use native.Mathlib.Omega.{arith}
 use borrow.Author.Tests.{lt-ltb, le-ltb, eq-eqb, ne-eqb}
-use Rattle.rules.specs.Answer.{Made, refuses}
-use Rattle.rules.specs.Calls.{refuseIf, refuseAt, refuseCount, refuseLength}
+use Rattle.rules.specs.Answer.{Making, refuses}
+use Rattle.rules.specs.Guards.{refuseIf, refuseAt, refuseCount, refuseLength}
 
 -- 1: "leaf count 0"
-pub no-leaf : (n : ℕ) (m : Made) → n ≡ 0 → refuseCount n m ≡ refuses 1 0
+pub no-leaf : {W : Type 0} (n : ℕ) (m : Making W) → n ≡ 0 → refuseCount n m ≡ refuses 1 0
 unfolding refuseCount
 no-leaf n m e = rw (eq-eqb n 0 e)
 
 -- 1: "or above 1,024"
-pub many-leaves : (n : ℕ) (m : Made) → 1024 < n → refuseCount n m ≡ refuses 1 0
+pub many-leaves : {W : Type 0} (n : ℕ) (m : Making W) → 1024 < n → refuseCount n m ≡ refuses 1 0
 unfolding refuseCount
 many-leaves n m h = let e = ne-eqb n 0 (omega arith) in rw (e, lt-ltb 1024 n h)
 
-pub some-leaves : (n : ℕ) (m : Made) → 1 ≤ n → n ≤ 1024 → refuseCount n m ≡ m
+pub some-leaves : {W : Type 0} (n : ℕ) (m : Making W) → 1 ≤ n → n ≤ 1024 → refuseCount n m ≡ m
 unfolding refuseCount
 some-leaves n m l h = let e = ne-eqb n 0 (omega arith) in rw (e, le-ltb 1024 n h)
 
 -- 2: "input length wrong"
-pub wrong-length : (wanted length′ : ℕ) (m : Made) → length′ ≢ wanted → refuseLength wanted length′ m ≡ refuses 2 wanted
+pub wrong-length : {W : Type 0} (wanted length′ : ℕ) (m : Making W) → length′ ≢ wanted → refuseLength wanted length′ m ≡ refuses 2 wanted
 unfolding refuseLength
 wrong-length wanted length′ m h = rw (ne-eqb length′ wanted h)
 
-pub right-length : (wanted length′ : ℕ) (m : Made) → length′ ≡ wanted → refuseLength wanted length′ m ≡ m
+pub right-length : {W : Type 0} (wanted length′ : ℕ) (m : Making W) → length′ ≡ wanted → refuseLength wanted length′ m ≡ m
 unfolding refuseLength
 right-length wanted length′ m e = rw (eq-eqb length′ wanted e)
 
 -- a test that passes, and one that does not
-pub refuse-if : (b : Bool) (number place : ℕ) (m : Made) → b ≡ true → refuseIf b number place m ≡ refuses number place
+pub refuse-if : {W : Type 0} (b : Bool) (number place : ℕ) (m : Making W) → b ≡ true → refuseIf b number place m ≡ refuses number place
 unfolding refuseIf
 refuse-if b number place m e = rw e
 
-pub pass-if : (b : Bool) (number place : ℕ) (m : Made) → b ≡ false → refuseIf b number place m ≡ m
+pub pass-if : {W : Type 0} (b : Bool) (number place : ℕ) (m : Making W) → b ≡ false → refuseIf b number place m ≡ m
 unfolding refuseIf
 pass-if b number place m e = rw e
 
 -- a fault that is there, and none
-pub refuse-at : (number place : ℕ) (o : Option ℕ) (m : Made) → o ≡ some place → refuseAt number o m ≡ refuses number place
+pub refuse-at : {W : Type 0} (number place : ℕ) (o : Option ℕ) (m : Making W) → o ≡ some place → refuseAt number o m ≡ refuses number place
 unfolding refuseAt
 refuse-at number place o m e = rw e
 
-pub pass-at : (number : ℕ) (o : Option ℕ) (m : Made) → o ≡ none → refuseAt number o m ≡ m
+pub pass-at : {W : Type 0} (number : ℕ) (o : Option ℕ) (m : Making W) → o ≡ none → refuseAt number o m ≡ m
 unfolding refuseAt
 pass-at number o m e = rw e

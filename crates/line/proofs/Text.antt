@@ -11,7 +11,7 @@ use Rattle.rules.specs.Vector.{Valid}
 use Rattle.rules.specs.Tree.{treeOf}
 use Rattle.rules.specs.Newick.{textOf}
 use Rattle.rules.specs.Answer.{Outcome, done, refused, Made, made, answer, after}
-use Rattle.rules.specs.Calls.{toText}
+use Rattle.rules.specs.CallToNewick.{toText}
 use Rattle.laws.specs.FromVector.{within-bounds}
 use Rattle.laws.specs.TreeOf.{tree-leaves}
 use Rattle.basics.specs.Fault.{valid-no-fault}

@@ -15,7 +15,7 @@ use borrow.Author.Tests.{ltb-true, ltb-false, eqb-true, eqb-false, le-leb}
 use Rattle.rules.specs.Vector.{Valid, fault}
 use Rattle.rules.specs.Record.{leafCount, recordLength, entriesOf, anySet, padding}
 use Rattle.rules.specs.Answer.{Outcome, done, refused, Made, made, refuses, answer, after}
-use Rattle.rules.specs.Calls.{unpack}
+use Rattle.rules.specs.CallUnpack.{unpack}
 use Rattle.rules.specs.Listing.{lineOf, lineFor, then}
 use Rattle.laws.specs.Answers.{done-same, done-not-refused}
 use Rattle.laws.specs.FromRecord.{under-two-bytes, no-leaf-record, many-leaf-record, wrong-record, Headed, entry-refused, padding-refused, record-accepted}

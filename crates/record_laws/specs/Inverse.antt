@@ -18,7 +18,9 @@ use Rattle.rules.specs.Vector.{entry, bound, Valid, fault}
 use Rattle.rules.specs.Order.{listed}
 use Rattle.rules.specs.Record.{Bits, width, total, recordLength, field, number, fields, bytesOf, recordOf, bitsOf, leafCount, entryIn, entriesOf, anySet, padding}
 use Rattle.rules.specs.Answer.{Made, made, refuses}
-use Rattle.rules.specs.Calls.{refuseIf, refuseAt, refuseCount, refuseLength, fromVector, pack, fromEntries, unpack}
+use Rattle.rules.specs.Guards.{refuseIf, refuseAt, refuseCount, refuseLength, fromVector}
+use Rattle.rules.specs.CallPack.{pack}
+use Rattle.rules.specs.CallUnpack.{fromEntries, unpack}
 use Rattle.basics.specs.Bools.{or-no}
 use Rattle.basics.specs.Listed.{length-listed}
 use Rattle.basics.specs.Fault.{no-fault-valid, valid-no-fault}

@@ -1,10 +1,7 @@
--- What comes back: the outcome in the paper's numbers, what a call makes of its input, and what a lent buffer then holds.
--- Main definitions: Outcome, reads, Made, answer, after.
-use mathlib.Core.Bool.{cond}
-use mathlib.Core.List.{List, _++_}
+-- What comes back, in the paper's numbers, and what a call makes of its input. Promise says how the two hang together.
+-- Main definitions: Outcome, numberOf, reads, Making, Made.
+use mathlib.Core.List.{List}
 use Prim.Native.Nat.{ℕ}
-use lib.Dec.{leb}
-use lib.ListN.{length, drop}
 use Rattle.rules.specs.declared.Kind.{Kind}
 use Rattle.rules.specs.declared.Kind.the-variants.{LeafCount, InputLength, Room, Entry, Parent, Child, NamedBefore, Grammar, Label, Padding, Permutation}
 use Rattle.rules.specs.declared.Answer.{Answer}
@@ -35,17 +32,11 @@ unfolding numberOf
 reads (Done k) = done k
 reads (Refused r) = refused (numberOf (r .kind)) (r .place)
 
--- What a call makes of its input before room is looked at: the elements to write, or a refusal's number and place.
-pub data Made : Type 0 where
-  made : List ℕ → Made
-  refuses : ℕ → ℕ → Made
+-- What a call makes of its input before room is looked at: what goes into the lent buffers, or a refusal's number and place.
+pub data Making (Written : Type 0) : Type 0 where
+  made : Written → Making Written
+  refuses : ℕ → ℕ → Making Written
 
--- "3: an output has too few elements; elements needed", which comes last; else "done with the number of elements written"
-unfoldable pub answer : Made → ℕ → Outcome
-answer (refuses number place) room = refused number place
-answer (made xs) room = cond (leb (length xs) room) (done (length xs)) (refused 3 (length xs))
-
--- "Elements past those written keep their old values. A refusal writes nothing."
-unfoldable pub after : Made → ℕ → List ℕ → List ℕ
-after (refuses number place) room old = old
-after (made xs) room old = cond (leb (length xs) room) (xs ++ drop (length xs) old) old
+-- most calls write one list of numbers
+abbrev pub Made : Type 0
+Made = Making (List ℕ)

@@ -8,7 +8,8 @@ use Rattle.rules.specs.Tree.{treeOf}
 use Rattle.rules.specs.Newick.{digits, textOf}
 use Rattle.rules.specs.Record.{leafCount, recordLength}
 use Rattle.rules.specs.Answer.{Made, made, refuses}
-use Rattle.rules.specs.Calls.{refuseIf, refuseCount, unpack}
+use Rattle.rules.specs.Guards.{refuseIf, refuseCount}
+use Rattle.rules.specs.CallUnpack.{unpack}
 
 -- "the vector with commas"
 unfoldable pub commaed : List ℕ → List ℕ

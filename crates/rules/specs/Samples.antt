@@ -17,14 +17,27 @@ use Rattle.rules.specs.Order.{vectorOf}
 use Rattle.rules.specs.Table.{tableOf}
 use Rattle.rules.specs.Newick.{pairText, allDigits, valueFrom, nought, number, Node, label, pair, text}
 use Rattle.rules.specs.Record.{recordOf}
-use Rattle.rules.specs.Answer.{Made, made, refuses}
+use Rattle.rules.specs.Answer.{Making, Made, made, refuses}
 use Rattle.rules.specs.Listing.{listing}
-use Rattle.rules.specs.Calls.{check, toTable, fromTable, toText, fromLabels, FromText, reads-as, pack, unpack, shuffleNew, shuffleVector, relabel}
+use Rattle.rules.specs.CallCheck.{check}
+use Rattle.rules.specs.CallToTable.{toTable}
+use Rattle.rules.specs.CallFromTable.{fromTable}
+use Rattle.rules.specs.CallToNewick.{toText}
+use Rattle.rules.specs.CallFromNewick.{fromLabels, FromText, reads-as}
+use Rattle.rules.specs.CallPack.{pack}
+use Rattle.rules.specs.CallUnpack.{unpack}
+use Rattle.rules.specs.CallShuffle.{shuffle}
+use Rattle.rules.specs.CallRelabel.{relabel}
 
 -- the bytes of a quoted text
 abbrev bytes : String → List ℕ
 bytes []ˢ = []
 bytes (c ∷ˢ s) = code c ∷ bytes s
+
+-- what goes into one buffer
+abbrev part : {W : Type 0} → (W → List ℕ) → Making W → Made
+part f (made x) = made (f x)
+part f (refuses k place) = refuses k place
 
 -- A line of the samples: what the definitions make of an input, and what 01 says that it gives.
 abbrev Line : Type 0
@@ -56,37 +69,37 @@ samples =
     ∷ (fromTable 4 (1 ∷ 2 ∷ 4 ∷ 0 ∷ 4 ∷ 5 ∷ 5 ∷ 3 ∷ 6 ∷ []), made (0 ∷ 0 ∷ 1 ∷ 4 ∷ []))
     ∷ (fromTable 4 (1 ∷ 0 ∷ 4 ∷ 3 ∷ 2 ∷ 5 ∷ 5 ∷ 4 ∷ 6 ∷ []), made (0 ∷ 0 ∷ 2 ∷ 2 ∷ []))
     ∷ (toTable (0 ∷ 0 ∷ 2 ∷ 2 ∷ []), made (2 ∷ 3 ∷ 4 ∷ 0 ∷ 1 ∷ 5 ∷ 5 ∷ 4 ∷ 6 ∷ []))
-    ∷ (shuffleNew (0 ∷ 0 ∷ 2 ∷ 1 ∷ []), made (0 ∷ 2 ∷ 1 ∷ 3 ∷ []))
-    ∷ (shuffleVector (0 ∷ 0 ∷ 2 ∷ 1 ∷ []), made (0 ∷ 0 ∷ 0 ∷ 2 ∷ []))
+    ∷ (part (λ x. x .0) (shuffle (0 ∷ 0 ∷ 2 ∷ 1 ∷ [])), made (0 ∷ 2 ∷ 1 ∷ 3 ∷ []))
+    ∷ (part (λ x. x .1) (shuffle (0 ∷ 0 ∷ 2 ∷ 1 ∷ [])), made (0 ∷ 0 ∷ 0 ∷ 2 ∷ []))
     ∷ (relabel (0 ∷ 0 ∷ 1 ∷ 4 ∷ []) (1 ∷ 0 ∷ 2 ∷ 3 ∷ []), made (0 ∷ 0 ∷ 0 ∷ 4 ∷ []))
-    ∷ (check (0 ∷ 1 ∷ []), refuses 4 1)
-    ∷ (check (0 ∷ 0 ∷ 3 ∷ []), refuses 4 2)
-    ∷ (check (0 ∷ 0 ∷ 2 ∷ []), made [])
-    ∷ (check [], refuses 1 0)
+    ∷ (part (λ x. []) (check (0 ∷ 1 ∷ [])), refuses 4 1)
+    ∷ (part (λ x. []) (check (0 ∷ 0 ∷ 3 ∷ [])), refuses 4 2)
+    ∷ (part (λ x. []) (check (0 ∷ 0 ∷ 2 ∷ [])), made [])
+    ∷ (part (λ x. []) (check []), refuses 1 0)
     ∷ (unpack (0x00 ∷ 0x41 ∷ []), refuses 10 1)
     ∷ []
 
 samples-hold : map (λ l. l .0) samples ≡ map (λ l. l .1) samples
-unfolding check toTable fromTable toText pack unpack shuffleNew shuffleVector relabel
+unfolding check toTable fromTable toText pack unpack shuffle relabel
 samples-hold = refl
 
 -- Worked by hand from 01's words: a queue that is no stack, and permutations that are not their own inverses.
 abbrev worked : List Line
 worked =
     (toText (0 ∷ 0 ∷ 2 ∷ 4 ∷ 3 ∷ []), made (bytes "(((0,1),2),(3,4));"))
-    ∷ (shuffleNew (0 ∷ 0 ∷ 2 ∷ 4 ∷ 3 ∷ []), made (0 ∷ 4 ∷ 2 ∷ 1 ∷ 3 ∷ []))
-    ∷ (shuffleVector (0 ∷ 0 ∷ 2 ∷ 4 ∷ 3 ∷ []), made (0 ∷ 0 ∷ 0 ∷ 1 ∷ 0 ∷ []))
+    ∷ (part (λ x. x .0) (shuffle (0 ∷ 0 ∷ 2 ∷ 4 ∷ 3 ∷ [])), made (0 ∷ 4 ∷ 2 ∷ 1 ∷ 3 ∷ []))
+    ∷ (part (λ x. x .1) (shuffle (0 ∷ 0 ∷ 2 ∷ 4 ∷ 3 ∷ [])), made (0 ∷ 0 ∷ 0 ∷ 1 ∷ 0 ∷ []))
     ∷ (relabel (0 ∷ 0 ∷ 2 ∷ []) (1 ∷ 2 ∷ 0 ∷ []), made (0 ∷ 0 ∷ 1 ∷ []))
     ∷ []
 
 worked-hold : map (λ l. l .0) worked ≡ map (λ l. l .1) worked
-unfolding toText shuffleNew shuffleVector relabel
+unfolding toText shuffle relabel
 worked-hold = refl
 
 -- Where two refusals would do, 01's "Order" decides.
 abbrev orders : List Line
 orders =
-    (check (replicate 1025 1), refuses 1 0)
+    (part (λ x. []) (check (replicate 1025 1)), refuses 1 0)
     ∷ (relabel (0 ∷ 1 ∷ []) [], refuses 4 1)
     ∷ (relabel (0 ∷ 0 ∷ []) (2 ∷ []), refuses 2 2)
     ∷ (relabel (0 ∷ 0 ∷ []) (0 ∷ 0 ∷ []), refuses 11 1)

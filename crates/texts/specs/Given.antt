@@ -11,7 +11,8 @@ use Rattle.rules.specs.Tree.{Tree, size}
 use Rattle.rules.specs.Order.{vectorOf}
 use Rattle.rules.specs.Newick.{Text, labelsOf, labelFault}
 use Rattle.rules.specs.Answer.{Made, made, refuses}
-use Rattle.rules.specs.Calls.{refuseCount, refuseAt, fromLabels, FromText, too-long, breaks, reads-as}
+use Rattle.rules.specs.Guards.{refuseCount, refuseAt}
+use Rattle.rules.specs.CallFromNewick.{fromLabels, FromText, too-long, breaks, reads-as}
 use Rattle.laws.specs.Guards.{many-leaves, some-leaves, refuse-at, pass-at}
 use Rattle.laws.specs.OneToOne.{every-tree}
 use Rattle.grammar.specs.Labels.{text-label-count}

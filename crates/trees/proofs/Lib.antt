@@ -1,5 +1,4 @@
 pub mod Checked
-pub mod Room
 pub mod ToTable
 pub mod Packing
 pub mod FromTable

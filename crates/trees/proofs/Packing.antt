@@ -1,5 +1,5 @@
 -- What pack makes of a sound vector, and what unpack answers at each of its ends.
--- Main results: record-made; refused-early, headed-of, length-fails.
+-- Main results: record-made; headed-of, length-fails.
 use mathlib.Core.List.{List, _++_}
 use mathlib.Core.Logic.{_≢_}
 use mathlib.Core.Option.{none, some}
@@ -8,21 +8,16 @@ use Prim.Native.Nat.{ℕ, _-_, _≤_, _<_}
 use native.Mathlib.Omega.{arith}
 use lib.ListN.{length}
 use Rattle.rules.specs.Record.{leafCount, recordLength, recordOf}
-use Rattle.rules.specs.Answer.{Outcome, refused, Made, made, refuses, answer, after}
-use Rattle.rules.specs.Calls.{pack, unpack}
+use Rattle.rules.specs.Answer.{made, refuses}
+use Rattle.rules.specs.CallPack.{pack}
+use Rattle.rules.specs.CallUnpack.{unpack}
 use Rattle.laws.specs.FromRecord.{Headed, wrong-record, padding-refused}
 use Rattle.record_laws.specs.Width.{record-length-least}
 use Rattle.trees.proofs.Checked.{Sound, sound-made}
-use Rattle.trees.proofs.Room.{Meets}
 
 pub record-made : (v : List ℕ) → Sound v → pack v ≡ made (recordOf v)
 unfolding pack
 record-made v S = sound-made v (made (recordOf v)) S
-
--- a refusal before room is looked at
-pub refused-early : (m : Made) (number place room : ℕ) (old : List ℕ) (o : Outcome) → m ≡ refuses number place → o ≡ refused number place → Meets m room old o old
-unfolding answer after
-refused-early m number place room old o e p = record { outcome = rw e p; buffer = rw e }
 
 pub headed-of : (s : List ℕ) (n wanted : ℕ) → 2 ≤ length s → n ≡ leafCount s → n ≢ 0 → n ≤ 1024 → wanted ≡ recordLength n → length s ≡ wanted → Headed s n
 headed-of s n wanted h c d u e w = record { two-bytes = h; count = c; some-leaf = omega arith; few = u; whole = w ∙ e }

@@ -1,19 +1,20 @@
 -- What shuffle and relabel make of a sound vector.
--- Main results: new-made, shuffled-made, new-count, shuffled-count; length-refused, value-refused, relabel-made, renamed-count.
-use mathlib.Core.List.{List, [], _++_}
+-- Main results: shuffle-made, new-count, shuffled-count; length-refused, value-refused, relabel-made, renamed-count.
+use mathlib.Core.List.{List, []}
 use mathlib.Core.Logic.{_≢_}
 use mathlib.Core.Option.{none, some}
 use mathlib.Core.Path.{_≡_, refl, sym, ap, _∙_}
-use Prim.Native.Nat.{ℕ, _≤_, _<_, min}
+use Prim.Native.Nat.{ℕ, _≤_, _<_}
 use native.Mathlib.Omega.{arith}
 use lib.Dec.{ltb}
-use lib.ListN.{length, drop}
+use lib.ListN.{length}
 use borrow.Author.Tests.{lt-ltb, le-ltb}
 use Rattle.rules.specs.Tree.{Tree, treeOf, LeavesBelow}
 use Rattle.rules.specs.Order.{vectorOf}
 use Rattle.rules.specs.Shuffle.{renamed, newOf, permutationFault}
-use Rattle.rules.specs.Answer.{Outcome, done, refused, made, refuses, answer, after}
-use Rattle.rules.specs.Calls.{shuffleNew, shuffleVector, relabel}
+use Rattle.rules.specs.Answer.{made, refuses}
+use Rattle.rules.specs.CallShuffle.{shuffle}
+use Rattle.rules.specs.CallRelabel.{relabel}
 use Rattle.laws.specs.Guards.{wrong-length, right-length, refuse-at, pass-at}
 use Rattle.laws.specs.OneToOne.{every-tree}
 use Rattle.laws.specs.TreeOf.{tree-leaves}
@@ -22,15 +23,10 @@ use Rattle.shuffle_laws.specs.Renaming.{renamed-below}
 use Rattle.shuffle_laws.specs.Taken.{new-no-fault}
 use Rattle.shuffle.specs.Marks.{placeOf}
 use Rattle.trees.proofs.Checked.{Sound, sound-made}
-use Rattle.trees.proofs.Room.{short-room, full-room}
 
-pub new-made : (v : List ℕ) → Sound v → shuffleNew v ≡ made (newOf (treeOf v))
-unfolding shuffleNew
-new-made v S = sound-made v (made (newOf (treeOf v))) S
-
-pub shuffled-made : (v : List ℕ) → Sound v → shuffleVector v ≡ made (vectorOf (renamed (newOf (treeOf v)) (treeOf v)))
-unfolding shuffleVector
-shuffled-made v S = sound-made v (made (vectorOf (renamed (newOf (treeOf v)) (treeOf v)))) S
+pub shuffle-made : (v : List ℕ) → Sound v → shuffle v ≡ made (newOf (treeOf v), vectorOf (renamed (newOf (treeOf v)) (treeOf v)))
+unfolding shuffle
+shuffle-made v S = sound-made v _ S
 
 pub new-count : (v : List ℕ) → Sound v → length (newOf (treeOf v)) ≡ length v
 new-count v S = new-no-fault (tree-leaves v (S .valid)) .0
@@ -69,21 +65,3 @@ pub relabel-made : (v p : List ℕ) → Sound v → length p ≡ length v → pe
 unfolding relabel
 relabel-made v p S l f =
     sound-made v _ S ∙ right-length (length v) (length p) _ l ∙ pass-at 11 (permutationFault (length v) 0 [] p) _ f
-
--- the ends of shuffle, for both buffers at once
-pub shuffle-short : (v new out : List ℕ) (o : Outcome) → Sound v → min (length new) (length out) < length v → o ≡ refused 3 (length v)
-    → (o ≡ answer (shuffleNew v) (min (length new) (length out)))
-    × ((new ≡ after (shuffleNew v) (min (length new) (length out)) new) × (out ≡ after (shuffleVector v) (min (length new) (length out)) out))
-shuffle-short v new out o S h e =
-    let M = short-room (shuffleNew v) (newOf (treeOf v)) (length v) (min (length new) (length out)) new o (new-made v S) (new-count v S) h e in
-    let N = short-room (shuffleVector v) _ (length v) (min (length new) (length out)) out o (shuffled-made v S) (shuffled-count v S) h e in
-    (M .outcome, (M .buffer, N .buffer))
-
-pub shuffle-full : (v new out new′ out′ : List ℕ) → Sound v → length v ≤ min (length new) (length out) → new′ ≡ newOf (treeOf v) ++ drop (length v) new
-    → out′ ≡ vectorOf (renamed (newOf (treeOf v)) (treeOf v)) ++ drop (length v) out
-    → (done (length v) ≡ answer (shuffleNew v) (min (length new) (length out)))
-    × ((new′ ≡ after (shuffleNew v) (min (length new) (length out)) new) × (out′ ≡ after (shuffleVector v) (min (length new) (length out)) out))
-shuffle-full v new out new′ out′ S h p q =
-    let M = full-room (shuffleNew v) (newOf (treeOf v)) (length v) (min (length new) (length out)) new new′ (new-made v S) (new-count v S) h p in
-    let N = full-room (shuffleVector v) _ (length v) (min (length new) (length out)) out out′ (shuffled-made v S) (shuffled-count v S) h q in
-    (M .outcome, (M .buffer, N .buffer))

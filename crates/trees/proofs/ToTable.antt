@@ -7,7 +7,7 @@ use lib.ListN.{length}
 use Rattle.rules.specs.Building.{merges}
 use Rattle.rules.specs.Table.{tableOf, tableRows, flat, rowsFrom}
 use Rattle.rules.specs.Answer.{made}
-use Rattle.rules.specs.Calls.{toTable}
+use Rattle.rules.specs.CallToTable.{toTable}
 use Rattle.merging.specs.Insertion.{pairs}
 use Rattle.building.specs.Built.{merges-are-pairs, merges-length}
 use Rattle.table_laws.specs.Rows.{table-length}

@@ -7,7 +7,7 @@ use lib.ListN.{length}
 use Rattle.rules.specs.Tree.{treeOf}
 use Rattle.rules.specs.Newick.{textOf}
 use Rattle.rules.specs.Answer.{made}
-use Rattle.rules.specs.Calls.{toText}
+use Rattle.rules.specs.CallToNewick.{toText}
 use Rattle.laws.specs.TreeOf.{tree-leaves}
 use Rattle.grammar.specs.Length.{textLength, text-length}
 use Rattle.trees.proofs.Checked.{Sound, sound-made}

@@ -1,21 +1,27 @@
-// The public calls. Each promises its answer and every element of every lent buffer, for all inputs, in the words of the crate
-// `rules`: what the call makes of its input (Calls), what comes back of that (answer), what the buffer then holds (after).
+// The public calls. Each keeps its promise for all inputs: its answer and every element of every lent buffer, as the crate `rules`
+// says it (Promise), for the call that stands there in a file of its own.
 use rules::Answer;
 use rules::Kind;
 use rules::Refusal;
 use texts::Given;
 use unpacking::Held;
 ghost use mathlib.Core.Path.{_≡_};
-ghost use lib.ListN.{length};
-ghost use Rattle.rules.specs.Answer.{Made, refused, numberOf, reads, answer, after};
-ghost use Rattle.rules.specs.Calls as calls;
-ghost use Rattle.rules.specs.Calls.{toTable, fromTable, toText, FromText, shuffleNew, shuffleVector};
-ghost use Prim.Native.Nat.{min};
+ghost use Rattle.rules.specs.Answer.{refused, numberOf, reads};
+ghost use Rattle.rules.specs.Promise.{Keeps};
+ghost use Rattle.rules.specs.CallCheck.{check-call};
+ghost use Rattle.rules.specs.CallToTable.{to-table-call};
+ghost use Rattle.rules.specs.CallFromTable.{from-table-call};
+ghost use Rattle.rules.specs.CallToNewick.{to-newick-call};
+ghost use Rattle.rules.specs.CallFromNewick.{from-newick-call};
+ghost use Rattle.rules.specs.CallPack.{pack-call};
+ghost use Rattle.rules.specs.CallUnpack.{unpack-call};
+ghost use Rattle.rules.specs.CallShuffle.{shuffle-call};
+ghost use Rattle.rules.specs.CallRelabel.{relabel-call};
 ghost use Rattle.reading.specs.Verdict.{rowNumber};
 
 // Whether v is a vector: 1, 4.
 pub fn check(v: &[u16]) -> Answer
-    ensures { λ r. ⌜ reads r ≡ answer (calls.check (now (v .entry))) 0 ⌝ }
+    ensures { λ r. ⌜ Keeps (check-call (now (v .entry))) tt r tt ⌝ }
 {
     let n = v.len();
     if n == 0 {
@@ -33,8 +39,7 @@ pub fn check(v: &[u16]) -> Answer
 
 // Vector to merge table: 1, 4, 3.
 pub fn to_table(v: &[u16], out: &mut [u16]) -> Answer
-    ensures { λ r. ⌜ reads r ≡ answer (toTable (now (v .entry))) (length (now (out .entry))) ⌝ }
-    ensures { λ r. ⌜ now (out .exit) ≡ after (toTable (now (v .entry))) (length (now (out .entry))) (now (out .entry)) ⌝ }
+    ensures { λ r. ⌜ Keeps (to-table-call (now (v .entry))) (now (out .entry)) r (now (out .exit)) ⌝ }
 {
     match check(v) {
         Answer::Refused(why) => Answer::Refused(why),
@@ -51,8 +56,7 @@ pub fn to_table(v: &[u16], out: &mut [u16]) -> Answer
 
 // Merge table to vector: 1, 2, then 5, 6 and 7 row by row, 3.
 pub fn from_table(leaves: usize, rows: &[u16], out: &mut [u16]) -> Answer
-    ensures { λ r. ⌜ reads r ≡ answer (fromTable leaves (now (rows .entry))) (length (now (out .entry))) ⌝ }
-    ensures { λ r. ⌜ now (out .exit) ≡ after (fromTable leaves (now (rows .entry))) (length (now (out .entry))) (now (out .entry)) ⌝ }
+    ensures { λ r. ⌜ Keeps (from-table-call leaves (now (rows .entry))) (now (out .entry)) r (now (out .exit)) ⌝ }
 {
     if leaves == 0 {
         return refuse(Kind::LeafCount, 0);
@@ -91,8 +95,7 @@ fn row_kind(number: u8) -> Kind
 
 // Vector to Newick: 1, 4, 3.
 pub fn to_newick(v: &[u16], out: &mut [u8]) -> Answer
-    ensures { λ r. ⌜ reads r ≡ answer (toText (now (v .entry))) (length (now (out .entry))) ⌝ }
-    ensures { λ r. ⌜ now (out .exit) ≡ after (toText (now (v .entry))) (length (now (out .entry))) (now (out .entry)) ⌝ }
+    ensures { λ r. ⌜ Keeps (to-newick-call (now (v .entry))) (now (out .entry)) r (now (out .exit)) ⌝ }
 {
     match check(v) {
         Answer::Refused(why) => Answer::Refused(why),
@@ -109,7 +112,7 @@ pub fn to_newick(v: &[u16], out: &mut [u8]) -> Answer
 
 // Newick to vector: 2 (above 6,056 bytes), 8, 1, 9, 3.
 pub fn from_newick(text: &[u8], out: &mut [u16]) -> Answer
-    ensures { λ r. ⌜ ((m : Made) × FromText (now (text .entry)) m × (reads r ≡ answer m (length (now (out .entry)))) × (now (out .exit) ≡ after m (length (now (out .entry))) (now (out .entry)))) ⌝ }
+    ensures { λ r. ⌜ Keeps (from-newick-call (now (text .entry))) (now (out .entry)) r (now (out .exit)) ⌝ }
 {
     if 6056 < text.len() {
         return refuse(Kind::InputLength, 6056);
@@ -131,8 +134,7 @@ pub fn from_newick(text: &[u8], out: &mut [u16]) -> Answer
 
 // Vector to packed record: 1, 4, 3.
 pub fn pack(v: &[u16], out: &mut [u8]) -> Answer
-    ensures { λ r. ⌜ reads r ≡ answer (calls.pack (now (v .entry))) (length (now (out .entry))) ⌝ }
-    ensures { λ r. ⌜ now (out .exit) ≡ after (calls.pack (now (v .entry))) (length (now (out .entry))) (now (out .entry)) ⌝ }
+    ensures { λ r. ⌜ Keeps (pack-call (now (v .entry))) (now (out .entry)) r (now (out .exit)) ⌝ }
 {
     match check(v) {
         Answer::Refused(why) => Answer::Refused(why),
@@ -149,8 +151,7 @@ pub fn pack(v: &[u16], out: &mut [u8]) -> Answer
 
 // Packed record to vector: 2 (under 2 bytes), 1, 2 (not the record's length), 4, 10, 3.
 pub fn unpack(s: &[u8], out: &mut [u16]) -> Answer
-    ensures { λ r. ⌜ reads r ≡ answer (calls.unpack (now (s .entry))) (length (now (out .entry))) ⌝ }
-    ensures { λ r. ⌜ now (out .exit) ≡ after (calls.unpack (now (s .entry))) (length (now (out .entry))) (now (out .entry)) ⌝ }
+    ensures { λ r. ⌜ Keeps (unpack-call (now (s .entry))) (now (out .entry)) r (now (out .exit)) ⌝ }
 {
     if s.len() < 2 {
         return refuse(Kind::InputLength, 2);
@@ -182,9 +183,7 @@ pub fn unpack(s: &[u8], out: &mut [u16]) -> Answer
 
 // Queue Shuffle: the permutation and the vector of the relabelled tree: 1, 4, 3. The room is that of the shorter buffer.
 pub fn shuffle(v: &[u16], new: &mut [u16], out: &mut [u16]) -> Answer
-    ensures { λ r. ⌜ reads r ≡ answer (shuffleNew (now (v .entry))) (min (length (now (new .entry))) (length (now (out .entry)))) ⌝ }
-    ensures { λ r. ⌜ now (new .exit) ≡ after (shuffleNew (now (v .entry))) (min (length (now (new .entry))) (length (now (out .entry)))) (now (new .entry)) ⌝ }
-    ensures { λ r. ⌜ now (out .exit) ≡ after (shuffleVector (now (v .entry))) (min (length (now (new .entry))) (length (now (out .entry)))) (now (out .entry)) ⌝ }
+    ensures { λ r. ⌜ Keeps (shuffle-call (now (v .entry))) (now (new .entry), now (out .entry)) r (now (new .exit), now (out .exit)) ⌝ }
 {
     match check(v) {
         Answer::Refused(why) => Answer::Refused(why),
@@ -204,8 +203,7 @@ pub fn shuffle(v: &[u16], new: &mut [u16], out: &mut [u16]) -> Answer
 
 // The vector of the tree with leaf x relabelled p(x): 1, 4, 2, 11, 3.
 pub fn relabel(v: &[u16], p: &[u16], out: &mut [u16]) -> Answer
-    ensures { λ r. ⌜ reads r ≡ answer (calls.relabel (now (v .entry)) (now (p .entry))) (length (now (out .entry))) ⌝ }
-    ensures { λ r. ⌜ now (out .exit) ≡ after (calls.relabel (now (v .entry)) (now (p .entry))) (length (now (out .entry))) (now (out .entry)) ⌝ }
+    ensures { λ r. ⌜ Keeps (relabel-call (now (v .entry)) (now (p .entry))) (now (out .entry)) r (now (out .exit)) ⌝ }
 {
     match check(v) {
         Answer::Refused(why) => Answer::Refused(why),

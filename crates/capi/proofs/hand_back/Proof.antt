@@ -1,7 +1,7 @@
 use native.Mathlib.Omega.{arith}
 use borrow.Author.Needs.{needs}
 use Rattle.rules.specs.Answer as answers
-use Rattle.capi.specs.Coded as coded
+use Rattle.rules.specs.Coded as coded
 use Rattle.capi.proofs.hand_back.Statement.{statement}
 use Rattle.capi.proofs.hand_back.Tie as tie
 use Rattle.capi.proofs.hand_back.Reads as reads

@@ -1,5 +1,5 @@
 use mathlib.Core.Path.{refl}
-use Rattle.rules.specs.Calls.{breaks}
+use Rattle.rules.specs.CallFromNewick.{breaks}
 use Rattle.texts.specs.Given.{some-labels, labels-kept, pairs-kept, too-many, label-found, recorded, vector-held}
 use native.Mathlib.Omega.{arith}
 use borrow.Author.Needs.{needs}

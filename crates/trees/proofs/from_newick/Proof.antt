@@ -1,9 +1,7 @@
-use mathlib.Core.Path.{refl}
 use Rattle.rules.specs.Answer as answers
-use Rattle.rules.specs.Calls.{too-long}
-use Rattle.trees.proofs.Room.{short-room, full-room}
+use Rattle.laws.specs.Kept.{refused-early, short-room, full-list}
+use Rattle.rules.specs.CallFromNewick.{too-long}
 use Rattle.texts.specs.Given.{held-there}
-use Rattle.trees.proofs.Packing.{refused-early}
 use native.Mathlib.Omega.{arith}
 use borrow.Author.Needs.{needs}
 use Rattle.trees.proofs.from_newick.Statement.{statement}
@@ -19,8 +17,7 @@ refuse-requires c κs = search needs
 
 returns : tie.Need-returns
 unfolding answers.reads answers.numberOf
-returns c = let M = refused-early _ _ _ _ _ _ refl (c .refuse .ensures) in
-    (_, too-long (c .before .if1 .taken), M .outcome, M .buffer)
+returns c = refused-early _ (too-long (c .before .if1 .taken)) (c .refuse .ensures)
 
 slice-aggregate-read-vector : tie.Need-slice-aggregate-read-vector
 slice-aggregate-read-vector c = search needs
@@ -55,8 +52,7 @@ refuse-requires-5 c κs = search needs
 returns-2 : tie.Need-returns-2
 unfolding answers.reads answers.numberOf
 returns-2 c = let H = rw (c .before .before .before .n .given .1) at (c .before .before .before .before .before .before .read-vector .ensures) in
-    let M = short-room _ _ _ _ _ _ refl (H .count) (c .before .if2 .taken) (c .refuse5 .ensures) in
-    (_, H .makes, M .outcome, M .buffer)
+    short-room _ _ (H .makes) (H .count) (c .before .if2 .taken) (c .refuse5 .ensures)
 
 slice-aggregate-copy-out : tie.Need-slice-aggregate-copy-out
 slice-aggregate-copy-out c = search needs
@@ -68,20 +64,17 @@ copy-out-requires c κs = let H = rw (c .before .before .before .before .n .give
 returns-3 : tie.Need-returns-3
 unfolding answers.reads answers.numberOf
 returns-3 c = let F = rw (c .before .before .place .given .1) at (c .before .before .before .before .before .read-vector .ensures) in
-    let M = refused-early _ _ _ _ _ _ refl (c .refuse2 .ensures) in
-    (_, F, M .outcome, M .buffer)
+    refused-early _ F (c .refuse2 .ensures)
 
 returns-4 : tie.Need-returns-4
 unfolding answers.reads answers.numberOf
 returns-4 c = let F = rw (c .before .enum-told .given .1) at (c .before .before .before .before .read-vector .ensures) in
-    let M = refused-early _ _ _ _ _ _ refl (c .refuse3 .ensures) in
-    (_, F, M .outcome, M .buffer)
+    refused-early _ F (c .refuse3 .ensures)
 
 returns-5 : tie.Need-returns-5
 unfolding answers.reads answers.numberOf
 returns-5 c = let F = rw (c .before .before .place2 .given .1) at (c .before .before .before .before .before .read-vector .ensures) in
-    let M = refused-early _ _ _ _ _ _ refl (c .refuse4 .ensures) in
-    (_, F, M .outcome, M .buffer)
+    refused-early _ F (c .refuse4 .ensures)
 
 same-length : tie.Need-same-length
 same-length c = search needs
@@ -89,8 +82,7 @@ same-length c = search needs
 returns-6 : tie.Need-returns-6
 unfolding answers.reads answers.numberOf
 returns-6 c = let H = rw (c .before .before .before .before .before .before .before .n .given .1) at (c .before .before .before .before .before .before .before .before .before .before .read-vector .ensures) in
-    let M = full-room _ _ _ _ _ _ refl (H .count) (c .before .before .before .before .before .if2 .left) (c .before .before .copy-out .ensures) in
-    (_, H .makes, M .outcome, M .buffer)
+    full-list _ _ (H .makes) (H .count) (c .before .before .before .before .before .if2 .left) (c .before .before .copy-out .ensures)
 
 pub from-newick-spec : {M : Type 1} → statement M
 from-newick-spec =

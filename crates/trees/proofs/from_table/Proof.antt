@@ -1,9 +1,8 @@
+use Rattle.laws.specs.Kept.{refused-early, short-room, full-list}
 use native.Mathlib.Omega.{arith}
 use borrow.Author.Needs.{needs}
 use Rattle.rules.specs.Answer as answers
 use Rattle.laws.specs.FromTable.{no-leaves, too-many-leaves, wrong-rows, row-refused, rows-accepted}
-use Rattle.trees.proofs.Room.{short-room, full-room}
-use Rattle.trees.proofs.Packing.{refused-early}
 use Rattle.trees.proofs.FromTable.{vector-count, told-front}
 use Rattle.trees.proofs.from_table.Statement.{statement}
 use Rattle.trees.proofs.from_table.Tie as tie
@@ -19,16 +18,14 @@ refuse-requires c κs = search needs
 
 returns : tie.Need-returns
 unfolding answers.reads answers.numberOf
-returns c = let M = refused-early _ _ _ _ _ _ (no-leaves _ _ (c .before .if1 .taken)) (c .refuse .ensures) in
-    (M .outcome, M .buffer)
+returns c = refused-early _ (no-leaves _ _ (c .before .if1 .taken)) (c .refuse .ensures)
 
 refuse-requires-2 : tie.Need-refuse-requires-2
 refuse-requires-2 c κs = search needs
 
 returns-2 : tie.Need-returns-2
 unfolding answers.reads answers.numberOf
-returns-2 c = let M = refused-early _ _ _ _ _ _ (too-many-leaves _ _ (c .before .if2 .taken)) (c .refuse2 .ensures) in
-    (M .outcome, M .buffer)
+returns-2 c = refused-early _ (too-many-leaves _ _ (c .before .if2 .taken)) (c .refuse2 .ensures)
 
 sub-wanted : tie.Need-sub-wanted
 sub-wanted c = search needs
@@ -41,8 +38,7 @@ refuse-requires-3 c κs = search needs
 
 returns-3 : tie.Need-returns-3
 unfolding answers.reads answers.numberOf
-returns-3 c = let M = refused-early _ _ _ _ _ _ (wrong-rows _ _ (omega arith) (c .before .before .if2 .left) (c .before .if3 .taken)) (c .refuse3 .ensures) in
-    (M .outcome, M .buffer)
+returns-3 c = refused-early _ (wrong-rows _ _ (omega arith) (c .before .before .if2 .left) (c .before .if3 .taken)) (c .refuse3 .ensures)
 
 slice-aggregate-table-vector : tie.Need-slice-aggregate-table-vector
 slice-aggregate-table-vector c = search needs
@@ -58,8 +54,7 @@ refuse-requires-4 c κs = search needs
 
 returns-4 : tie.Need-returns-4
 unfolding answers.reads
-returns-4 c = let M = refused-early _ _ _ _ _ _ (row-refused _ _ _ (omega arith) (c .before .before .before .before .before .before .before .before .if2 .left) (c .before .before .before .before .before .before .before .if3 .left) (c .before .before .before .before .before .table-vector .ensures .found (c .before .before .if4 .taken))) (rw (c .before .row-kind .ensures) at (c .refuse4 .ensures)) in
-    (M .outcome, M .buffer)
+returns-4 c = refused-early _ (row-refused _ _ _ (omega arith) (c .before .before .before .before .before .before .before .before .if2 .left) (c .before .before .before .before .before .before .before .if3 .left) (c .before .before .before .before .before .table-vector .ensures .found (c .before .before .if4 .taken))) (rw (c .before .row-kind .ensures) at (c .refuse4 .ensures))
 
 refuse-requires-5 : tie.Need-refuse-requires-5
 refuse-requires-5 c κs = search needs
@@ -67,8 +62,7 @@ refuse-requires-5 c κs = search needs
 returns-5 : tie.Need-returns-5
 unfolding answers.reads answers.numberOf
 returns-5 c = let f = c .before .before .before .before .before .table-vector .ensures .none-found (c .before .before .if4 .left) in
-    let M = short-room _ _ _ _ _ _ (rows-accepted _ _ (omega arith) (c .before .before .before .before .before .before .before .before .if2 .left) (c .before .before .before .before .before .before .before .if3 .left) f) (vector-count _ _ (omega arith) (c .before .before .before .before .before .before .before .if3 .left) f) (c .before .if5 .taken) (c .refuse5 .ensures) in
-    (M .outcome, M .buffer)
+    short-room _ _ (rows-accepted _ _ (omega arith) (c .before .before .before .before .before .before .before .before .if2 .left) (c .before .before .before .before .before .before .before .if3 .left) f) (vector-count _ _ (omega arith) (c .before .before .before .before .before .before .before .if3 .left) f) (c .before .if5 .taken) (c .refuse5 .ensures)
 
 slice-aggregate-copy-out : tie.Need-slice-aggregate-copy-out
 slice-aggregate-copy-out c = search needs
@@ -84,8 +78,7 @@ unfolding answers.reads answers.numberOf
 returns-6 c = let T = c .before .before .before .before .before .before .before .before .before .table-vector .ensures in
     let f = T .none-found (c .before .before .before .before .before .before .if4 .left) in
     let l = vector-count _ _ (omega arith) (c .before .before .before .before .before .before .before .before .before .before .before .if3 .left) f in
-    let M = full-room _ _ _ _ _ _ (rows-accepted _ _ (omega arith) (c .before .before .before .before .before .before .before .before .before .before .before .before .if2 .left) (c .before .before .before .before .before .before .before .before .before .before .before .if3 .left) f) l (c .before .before .before .before .before .if5 .left) (rw (told-front T (c .before .before .before .before .before .before .if4 .left) l) at (c .before .before .copy-out .ensures)) in
-    (M .outcome, M .buffer)
+    full-list _ _ (rows-accepted _ _ (omega arith) (c .before .before .before .before .before .before .before .before .before .before .before .before .if2 .left) (c .before .before .before .before .before .before .before .before .before .before .before .if3 .left) f) l (c .before .before .before .before .before .if5 .left) (rw (told-front T (c .before .before .before .before .before .before .if4 .left) l) at (c .before .before .copy-out .ensures))
 
 pub from-table-spec : {M : Type 1} → statement M
 from-table-spec =

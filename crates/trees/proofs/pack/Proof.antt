@@ -1,11 +1,11 @@
+use Rattle.laws.specs.Kept.{short-room, full-list}
 use native.Mathlib.Omega.{arith}
 use borrow.Author.Needs.{needs}
-use mathlib.Core.Path.{sym, _∙_}
+use mathlib.Core.Path.{refl, sym, _∙_}
 use Rattle.rules.specs.Answer as answers
-use Rattle.rules.specs.Calls as calls
+use Rattle.rules.specs.CallPack as calls
 use Rattle.record_laws.specs.Inverse.{length-record}
-use Rattle.trees.proofs.Checked.{checked-sound, alike, refused-alike, kept-alike}
-use Rattle.trees.proofs.Room.{short-room, full-room}
+use Rattle.trees.proofs.Checked.{checked-sound, refused-alike}
 use Rattle.trees.proofs.Packing.{record-made}
 use Rattle.trees.proofs.pack.Statement.{statement}
 use Rattle.trees.proofs.pack.Tie as tie
@@ -26,7 +26,7 @@ enum-told : tie.Need-enum-told
 enum-told c = search needs
 
 record-length-requires : tie.Need-record-length-requires
-record-length-requires c κs = let S = checked-sound _ _ _ (c .before .before .check .ensures) (c .enum-told .given .1) in
+record-length-requires c κs = let S = checked-sound (c .before .before .check .ensures) (c .enum-told .given .1) in
     (S .valid .some-leaf, S .small)
 
 refuse-requires : tie.Need-refuse-requires
@@ -34,27 +34,24 @@ refuse-requires c κs = search needs
 
 returns : tie.Need-returns
 unfolding answers.reads answers.numberOf
-returns c = let S = checked-sound _ _ _ (c .before .before .before .before .before .check .ensures) (c .before .before .before .enum-told .given .1) in
-    let M = short-room _ _ _ _ _ _ (record-made _ S) (length-record _ ∙ sym (c .before .before .record-length .ensures)) (c .before .if1 .taken) (c .refuse .ensures) in
-    (M .outcome, M .buffer)
+returns c = let S = checked-sound (c .before .before .before .before .before .check .ensures) (c .before .before .before .enum-told .given .1) in
+    short-room _ _ (record-made _ S) (length-record _ ∙ sym (c .before .before .record-length .ensures)) (c .before .if1 .taken) (c .refuse .ensures)
 
 pack-into-requires : tie.Need-pack-into-requires
-pack-into-requires c κs = let S = checked-sound _ _ _ (c .before .before .before .before .before .check .ensures) (c .before .before .before .enum-told .given .1) in
+pack-into-requires c κs = let S = checked-sound (c .before .before .before .before .before .check .ensures) (c .before .before .before .enum-told .given .1) in
     (S .valid, S .small, rw (c .before .before .record-length .ensures) at (c .before .if1 .left))
 
 returns-2 : tie.Need-returns-2
 unfolding calls.pack
-returns-2 c = let A = alike _ _ _ (c .before .before .before .check .ensures) (c .before .why .given .1) in
-    (refused-alike _ _ _ _ A, kept-alike _ _ _ _ _ A)
+returns-2 c = refused-alike _ _ _ refl (c .before .before .before .check .ensures) (c .before .why .given .1)
 
 same-length : tie.Need-same-length
 same-length c = search needs
 
 returns-3 : tie.Need-returns-3
 unfolding answers.reads answers.numberOf
-returns-3 c = let S = checked-sound _ _ _ (c .before .before .before .before .before .before .before .before .check .ensures) (c .before .before .before .before .before .before .enum-told .given .1) in
-    let M = full-room _ _ _ _ _ _ (record-made _ S) (length-record _ ∙ sym (c .before .before .before .before .before .record-length .ensures)) (c .before .before .before .before .if1 .left) (rw (← c .before .before .before .before .before .record-length .ensures) at (c .before .before .pack-into .ensures)) in
-    (M .outcome, M .buffer)
+returns-3 c = let S = checked-sound (c .before .before .before .before .before .before .before .before .check .ensures) (c .before .before .before .before .before .before .enum-told .given .1) in
+    full-list _ _ (record-made _ S) (length-record _ ∙ sym (c .before .before .before .before .before .record-length .ensures)) (c .before .before .before .before .if1 .left) (rw (← c .before .before .before .before .before .record-length .ensures) at (c .before .before .pack-into .ensures))
 
 pub pack-spec : {M : Type 1} → statement M
 pack-spec =

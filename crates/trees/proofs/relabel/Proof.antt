@@ -1,10 +1,10 @@
+use mathlib.Core.Path.{refl}
+use Rattle.laws.specs.Kept.{refused-early, short-room, full-list}
 use native.Mathlib.Omega.{arith}
 use borrow.Author.Needs.{needs}
 use Rattle.rules.specs.Answer as answers
-use Rattle.rules.specs.Calls as calls
-use Rattle.trees.proofs.Checked.{checked-sound, alike, refused-alike, kept-alike}
-use Rattle.trees.proofs.Room.{short-room, full-room}
-use Rattle.trees.proofs.Packing.{refused-early}
+use Rattle.rules.specs.CallRelabel as calls
+use Rattle.trees.proofs.Checked.{checked-sound, refused-alike}
 use Rattle.trees.proofs.Renaming.{length-refused, value-refused, no-value-fault, relabel-made, renamed-count}
 use Rattle.trees.proofs.relabel.Statement.{statement}
 use Rattle.trees.proofs.relabel.Tie as tie
@@ -29,50 +29,45 @@ refuse-requires c κs = search needs
 
 returns : tie.Need-returns
 unfolding answers.reads answers.numberOf
-returns c = let S = checked-sound _ _ _ (c .before .before .before .before .check .ensures) (c .before .before .enum-told .given .1) in
-    let M = refused-early _ _ _ _ _ _ (length-refused _ _ S (c .before .if1 .taken)) (c .refuse .ensures) in
-    (M .outcome, M .buffer)
+returns c = let S = checked-sound (c .before .before .before .before .check .ensures) (c .before .before .enum-told .given .1) in
+    refused-early _ (length-refused _ _ S (c .before .if1 .taken)) (c .refuse .ensures)
 
 permutation-fault-requires : tie.Need-permutation-fault-requires
-permutation-fault-requires c κs = checked-sound _ _ _ (c .before .before .before .check .ensures) (c .before .enum-told .given .1) .small
+permutation-fault-requires c κs = checked-sound (c .before .before .before .check .ensures) (c .before .enum-told .given .1) .small
 
 refuse-requires-2 : tie.Need-refuse-requires-2
 refuse-requires-2 c κs = search needs
 
 returns-2 : tie.Need-returns-2
 unfolding answers.reads answers.numberOf
-returns-2 c = let S = checked-sound _ _ _ (c .before .before .before .before .before .before .check .ensures) (c .before .before .before .before .enum-told .given .1) in
-    let M = refused-early _ _ _ _ _ _ (value-refused _ _ _ S (c .before .before .before .if1 .left) (c .before .before .permutation-fault .ensures .1) (c .before .if2 .taken)) (c .refuse2 .ensures) in
-    (M .outcome, M .buffer)
+returns-2 c = let S = checked-sound (c .before .before .before .before .before .before .check .ensures) (c .before .before .before .before .enum-told .given .1) in
+    refused-early _ (value-refused _ _ _ S (c .before .before .before .if1 .left) (c .before .before .permutation-fault .ensures .1) (c .before .if2 .taken)) (c .refuse2 .ensures)
 
 refuse-requires-3 : tie.Need-refuse-requires-3
 refuse-requires-3 c κs = search needs
 
 returns-3 : tie.Need-returns-3
 unfolding answers.reads answers.numberOf
-returns-3 c = let S = checked-sound _ _ _ (c .before .before .before .before .before .before .before .check .ensures) (c .before .before .before .before .before .enum-told .given .1) in
+returns-3 c = let S = checked-sound (c .before .before .before .before .before .before .before .check .ensures) (c .before .before .before .before .before .enum-told .given .1) in
     let f = no-value-fault _ _ _ (c .before .before .before .before .if1 .left) (c .before .before .before .permutation-fault .ensures .1) (c .before .before .if2 .left) in
-    let M = short-room _ _ _ _ _ _ (relabel-made _ _ S (c .before .before .before .before .if1 .left) f) (renamed-count _ _ S (c .before .before .before .before .if1 .left) f) (c .before .if3 .taken) (c .refuse3 .ensures) in
-    (M .outcome, M .buffer)
+    short-room _ _ (relabel-made _ _ S (c .before .before .before .before .if1 .left) f) (renamed-count _ _ S (c .before .before .before .before .if1 .left) f) (c .before .if3 .taken) (c .refuse3 .ensures)
 
 renamed-vector-requires : tie.Need-renamed-vector-requires
-renamed-vector-requires c κs = let S = checked-sound _ _ _ (c .before .before .before .before .before .before .before .check .ensures) (c .before .before .before .before .before .enum-told .given .1) in
+renamed-vector-requires c κs = let S = checked-sound (c .before .before .before .before .before .before .before .check .ensures) (c .before .before .before .before .before .enum-told .given .1) in
     ((S .valid, S .small, c .before .if3 .left), (c .before .before .before .before .if1 .left, no-value-fault _ _ _ (c .before .before .before .before .if1 .left) (c .before .before .before .permutation-fault .ensures .1) (c .before .before .if2 .left)))
 
 returns-4 : tie.Need-returns-4
 unfolding calls.relabel
-returns-4 c = let A = alike _ _ _ (c .before .before .before .check .ensures) (c .before .why .given .1) in
-    (refused-alike _ _ _ _ A, kept-alike _ _ _ _ _ A)
+returns-4 c = refused-alike _ _ _ refl (c .before .before .before .check .ensures) (c .before .why .given .1)
 
 same-length : tie.Need-same-length
 same-length c = search needs
 
 returns-5 : tie.Need-returns-5
 unfolding answers.reads answers.numberOf
-returns-5 c = let S = checked-sound _ _ _ (c .before .before .before .before .before .before .before .before .before .before .check .ensures) (c .before .before .before .before .before .before .before .before .enum-told .given .1) in
+returns-5 c = let S = checked-sound (c .before .before .before .before .before .before .before .before .before .before .check .ensures) (c .before .before .before .before .before .before .before .before .enum-told .given .1) in
     let f = no-value-fault _ _ _ (c .before .before .before .before .before .before .before .if1 .left) (c .before .before .before .before .before .before .permutation-fault .ensures .1) (c .before .before .before .before .before .if2 .left) in
-    let M = full-room _ _ _ _ _ _ (relabel-made _ _ S (c .before .before .before .before .before .before .before .if1 .left) f) (renamed-count _ _ S (c .before .before .before .before .before .before .before .if1 .left) f) (c .before .before .before .before .if3 .left) (c .before .before .renamed-vector .ensures) in
-    (M .outcome, M .buffer)
+    full-list _ _ (relabel-made _ _ S (c .before .before .before .before .before .before .before .if1 .left) f) (renamed-count _ _ S (c .before .before .before .before .before .before .before .if1 .left) f) (c .before .before .before .before .if3 .left) (c .before .before .renamed-vector .ensures)
 
 pub relabel-spec : {M : Type 1} → statement M
 relabel-spec =

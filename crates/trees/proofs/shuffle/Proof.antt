@@ -1,11 +1,11 @@
 use native.Mathlib.Omega.{arith}
 use borrow.Author.Needs.{needs}
 use Rattle.rules.specs.Answer as answers
-use Rattle.rules.specs.Calls as calls
-use Rattle.trees.proofs.Checked.{checked-sound, alike, refused-alike, kept-alike}
-use Rattle.trees.proofs.Room.{short-room, full-room}
-use Rattle.trees.proofs.Packing.{refused-early}
-use Rattle.trees.proofs.Renaming.{shuffle-short, shuffle-full}
+use mathlib.Core.Path.{refl}
+use Rattle.rules.specs.CallShuffle as calls
+use Rattle.laws.specs.Kept.{short-room, full-lists}
+use Rattle.trees.proofs.Checked.{checked-sound, refused-alike}
+use Rattle.trees.proofs.Renaming.{shuffle-made, new-count, shuffled-count}
 use Rattle.trees.proofs.shuffle.Statement.{statement}
 use Rattle.trees.proofs.shuffle.Tie as tie
 use Rattle.trees.proofs.shuffle.Reads as reads
@@ -28,23 +28,24 @@ refuse-requires c κs = search needs
 
 returns : tie.Need-returns
 unfolding answers.reads answers.numberOf
-returns c = shuffle-short _ _ _ _ (checked-sound _ _ _ (c .before .before .before .before .check .ensures) (c .before .before .enum-told .given .1)) (omega arith) (c .refuse .ensures)
+returns c = let S = checked-sound (c .before .before .before .before .check .ensures) (c .before .before .enum-told .given .1) in
+    short-room _ _ (shuffle-made _ S) (new-count _ S) (omega arith) (c .refuse .ensures)
 
 refuse-requires-2 : tie.Need-refuse-requires-2
 refuse-requires-2 c κs = search needs
 
 returns-2 : tie.Need-returns-2
 unfolding answers.reads answers.numberOf
-returns-2 c = shuffle-short _ _ _ _ (checked-sound _ _ _ (c .before .before .before .before .before .check .ensures) (c .before .before .before .enum-told .given .1)) (omega arith) (c .refuse2 .ensures)
+returns-2 c = let S = checked-sound (c .before .before .before .before .before .check .ensures) (c .before .before .before .enum-told .given .1) in
+    short-room _ _ (shuffle-made _ S) (new-count _ S) (omega arith) (c .refuse2 .ensures)
 
 shuffled-requires : tie.Need-shuffled-requires
-shuffled-requires c κs = let S = checked-sound _ _ _ (c .before .before .before .before .before .before .check .ensures) (c .before .before .before .before .enum-told .given .1) in
+shuffled-requires c κs = let S = checked-sound (c .before .before .before .before .before .before .check .ensures) (c .before .before .before .before .enum-told .given .1) in
     (S .valid, S .small, c .before .before .before .if1 .left, c .before .before .if2 .left)
 
 returns-3 : tie.Need-returns-3
-unfolding calls.shuffleNew calls.shuffleVector
-returns-3 c = let A = alike _ _ _ (c .before .before .before .check .ensures) (c .before .why .given .1) in
-    (refused-alike _ _ _ _ A, (kept-alike _ _ _ _ _ A, kept-alike _ _ _ _ _ A))
+unfolding calls.shuffle
+returns-3 c = refused-alike _ _ _ refl (c .before .before .before .check .ensures) (c .before .why .given .1)
 
 same-length : tie.Need-same-length
 same-length c = search needs
@@ -54,7 +55,8 @@ same-length-2 c = search needs
 
 returns-4 : tie.Need-returns-4
 unfolding answers.reads answers.numberOf
-returns-4 c = shuffle-full _ _ _ _ _ (checked-sound _ _ _ (c .before .before .before .before .before .before .before .before .before .before .before .check .ensures) (c .before .before .before .before .before .before .before .before .before .enum-told .given .1)) (omega arith) (c .before .before .before .before .shuffled .ensures .0) (c .before .before .before .before .shuffled .ensures .1)
+returns-4 c = let S = checked-sound (c .before .before .before .before .before .before .before .before .before .before .before .check .ensures) (c .before .before .before .before .before .before .before .before .before .enum-told .given .1) in
+    full-lists _ _ _ (shuffle-made _ S) (new-count _ S) (shuffled-count _ S) (omega arith) (c .before .before .before .before .shuffled .ensures .0) (c .before .before .before .before .shuffled .ensures .1)
 
 pub shuffle-spec : {M : Type 1} → statement M
 shuffle-spec =

@@ -1,8 +1,8 @@
-use mathlib.Core.Path.{sym, _∙_}
+use Rattle.laws.specs.Kept.{short-room, full-list}
+use mathlib.Core.Path.{refl, sym, _∙_}
 use Rattle.rules.specs.Answer as answers
-use Rattle.rules.specs.Calls as calls
-use Rattle.trees.proofs.Checked.{checked-sound, alike, refused-alike, kept-alike}
-use Rattle.trees.proofs.Room.{short-room, full-room}
+use Rattle.rules.specs.CallToNewick as calls
+use Rattle.trees.proofs.Checked.{checked-sound, refused-alike}
 use Rattle.trees.proofs.ToText.{text-made, text-count}
 use native.Mathlib.Omega.{arith}
 use borrow.Author.Needs.{needs}
@@ -25,7 +25,7 @@ enum-told : tie.Need-enum-told
 enum-told c = search needs
 
 text-length-requires : tie.Need-text-length-requires
-text-length-requires c κs = let S = checked-sound _ _ _ (c .before .before .check .ensures) (c .enum-told .given .1) in
+text-length-requires c κs = let S = checked-sound (c .before .before .check .ensures) (c .enum-told .given .1) in
     (S .valid .some-leaf, S .small)
 
 refuse-requires : tie.Need-refuse-requires
@@ -33,27 +33,24 @@ refuse-requires c κs = search needs
 
 returns : tie.Need-returns
 unfolding answers.reads answers.numberOf
-returns c = let S = checked-sound _ _ _ (c .before .before .before .before .before .check .ensures) (c .before .before .before .enum-told .given .1) in
-    let M = short-room _ _ _ _ _ _ (text-made _ S) (text-count _ S ∙ sym (c .before .before .text-length .ensures)) (c .before .if1 .taken) (c .refuse .ensures) in
-    (M .outcome, M .buffer)
+returns c = let S = checked-sound (c .before .before .before .before .before .check .ensures) (c .before .before .before .enum-told .given .1) in
+    short-room _ _ (text-made _ S) (text-count _ S ∙ sym (c .before .before .text-length .ensures)) (c .before .if1 .taken) (c .refuse .ensures)
 
 write-tree-requires : tie.Need-write-tree-requires
-write-tree-requires c κs = let S = checked-sound _ _ _ (c .before .before .before .before .before .check .ensures) (c .before .before .before .enum-told .given .1) in
+write-tree-requires c κs = let S = checked-sound (c .before .before .before .before .before .check .ensures) (c .before .before .before .enum-told .given .1) in
     (S .valid, S .small, rw (c .before .before .text-length .ensures) at (c .before .if1 .left))
 
 returns-2 : tie.Need-returns-2
 unfolding calls.toText
-returns-2 c = let A = alike _ _ _ (c .before .before .before .check .ensures) (c .before .why .given .1) in
-    (refused-alike _ _ _ _ A, kept-alike _ _ _ _ _ A)
+returns-2 c = refused-alike _ _ _ refl (c .before .before .before .check .ensures) (c .before .why .given .1)
 
 same-length : tie.Need-same-length
 same-length c = search needs
 
 returns-3 : tie.Need-returns-3
 unfolding answers.reads answers.numberOf
-returns-3 c = let S = checked-sound _ _ _ (c .before .before .before .before .before .before .before .before .check .ensures) (c .before .before .before .before .before .before .enum-told .given .1) in
-    let M = full-room _ _ _ _ _ _ (text-made _ S) (text-count _ S ∙ sym (c .before .before .before .before .before .text-length .ensures)) (c .before .before .before .before .if1 .left) (rw (← c .before .before .before .before .before .text-length .ensures) at (c .before .before .write-tree .ensures)) in
-    (M .outcome, M .buffer)
+returns-3 c = let S = checked-sound (c .before .before .before .before .before .before .before .before .check .ensures) (c .before .before .before .before .before .before .enum-told .given .1) in
+    full-list _ _ (text-made _ S) (text-count _ S ∙ sym (c .before .before .before .before .before .text-length .ensures)) (c .before .before .before .before .if1 .left) (rw (← c .before .before .before .before .before .text-length .ensures) at (c .before .before .write-tree .ensures))
 
 pub to-newick-spec : {M : Type 1} → statement M
 to-newick-spec =

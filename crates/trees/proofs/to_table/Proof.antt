@@ -1,9 +1,10 @@
+use mathlib.Core.Path.{refl}
 use native.Mathlib.Omega.{arith}
 use borrow.Author.Needs.{needs}
 use Rattle.rules.specs.Answer as answers
-use Rattle.rules.specs.Calls as calls
-use Rattle.trees.proofs.Checked.{checked-sound, alike, refused-alike, kept-alike}
-use Rattle.trees.proofs.Room.{short-room, full-room}
+use Rattle.laws.specs.Kept.{short-room, full-list}
+use Rattle.rules.specs.CallToTable as calls
+use Rattle.trees.proofs.Checked.{checked-sound, refused-alike}
 use Rattle.trees.proofs.ToTable.{table-made, table-count}
 use Rattle.trees.proofs.to_table.Statement.{statement}
 use Rattle.trees.proofs.to_table.Tie as tie
@@ -23,7 +24,7 @@ enum-told : tie.Need-enum-told
 enum-told c = search needs
 
 sub-needed : tie.Need-sub-needed
-sub-needed c = omega (arith, checked-sound _ _ _ (c .before .before .check .ensures) (c .enum-told .given .1) .valid .some-leaf)
+sub-needed c = omega (arith, checked-sound (c .before .before .check .ensures) (c .enum-told .given .1) .valid .some-leaf)
 
 mul-needed : tie.Need-mul-needed
 mul-needed c = search needs
@@ -33,27 +34,24 @@ refuse-requires c κs = search needs
 
 returns : tie.Need-returns
 unfolding answers.reads answers.numberOf
-returns c = let S = checked-sound _ _ _ (c .before .before .before .before .check .ensures) (c .before .before .enum-told .given .1) in
-    let M = short-room _ _ _ _ _ _ (table-made _ S) (table-count _ S) (c .before .if1 .taken) (c .refuse .ensures) in
-    (M .outcome, M .buffer)
+returns c = let S = checked-sound (c .before .before .before .before .check .ensures) (c .before .before .enum-told .given .1) in
+    short-room _ _ (table-made _ S) (table-count _ S) (c .before .if1 .taken) (c .refuse .ensures)
 
 write-table-requires : tie.Need-write-table-requires
-write-table-requires c κs = let S = checked-sound _ _ _ (c .before .before .before .before .check .ensures) (c .before .before .enum-told .given .1) in
+write-table-requires c κs = let S = checked-sound (c .before .before .before .before .check .ensures) (c .before .before .enum-told .given .1) in
     (S .valid, S .small, c .before .if1 .left)
 
 returns-2 : tie.Need-returns-2
 unfolding calls.toTable
-returns-2 c = let A = alike _ _ _ (c .before .before .before .check .ensures) (c .before .why .given .1) in
-    (refused-alike _ _ _ _ A, kept-alike _ _ _ _ _ A)
+returns-2 c = refused-alike _ _ _ refl (c .before .before .before .check .ensures) (c .before .why .given .1)
 
 same-length : tie.Need-same-length
 same-length c = search needs
 
 returns-3 : tie.Need-returns-3
 unfolding answers.reads answers.numberOf
-returns-3 c = let S = checked-sound _ _ _ (c .before .before .before .before .before .before .before .check .ensures) (c .before .before .before .before .before .enum-told .given .1) in
-    let M = full-room _ _ _ _ _ _ (table-made _ S) (table-count _ S) (c .before .before .before .before .if1 .left) (c .before .before .write-table .ensures) in
-    (M .outcome, M .buffer)
+returns-3 c = let S = checked-sound (c .before .before .before .before .before .before .before .check .ensures) (c .before .before .before .before .before .enum-told .given .1) in
+    full-list _ _ (table-made _ S) (table-count _ S) (c .before .before .before .before .if1 .left) (c .before .before .write-table .ensures)
 
 pub to-table-spec : {M : Type 1} → statement M
 to-table-spec =

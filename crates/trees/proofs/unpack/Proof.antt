@@ -1,3 +1,4 @@
+use Rattle.laws.specs.Kept.{refused-early, short-room, full-list}
 use native.Mathlib.Omega.{arith}
 use borrow.Author.Needs.{needs}
 use mathlib.Core.Path.{refl}
@@ -5,8 +6,7 @@ use Rattle.rules.specs.Answer as answers
 use Rattle.laws.specs.FromRecord.{under-two-bytes, no-leaf-record, many-leaf-record, entry-refused, padding-refused, record-accepted}
 use Rattle.record_laws.specs.Inverse.{length-entries}
 use Rattle.record_laws.specs.Width.{record-length-least}
-use Rattle.trees.proofs.Room.{short-room, full-room}
-use Rattle.trees.proofs.Packing.{refused-early, headed-of, length-fails, some-byte}
+use Rattle.trees.proofs.Packing.{headed-of, length-fails, some-byte}
 use Rattle.trees.proofs.unpack.Statement.{statement}
 use Rattle.trees.proofs.unpack.Tie as tie
 use Rattle.trees.proofs.unpack.Reads as reads
@@ -22,8 +22,7 @@ refuse-requires c κs = search needs
 
 returns : tie.Need-returns
 unfolding answers.reads answers.numberOf
-returns c = let M = refused-early _ _ _ _ _ _ (under-two-bytes _ (c .before .if1 .taken)) (c .refuse .ensures) in
-    (M .outcome, M .buffer)
+returns c = refused-early _ (under-two-bytes _ (c .before .if1 .taken)) (c .refuse .ensures)
 
 leaf-count-requires : tie.Need-leaf-count-requires
 leaf-count-requires c κs = search needs
@@ -33,16 +32,14 @@ refuse-requires-2 c κs = search needs
 
 returns-2 : tie.Need-returns-2
 unfolding answers.reads answers.numberOf
-returns-2 c = let M = refused-early _ _ _ _ _ _ (no-leaf-record _ _ (c .before .before .before .if1 .left) (c .before .before .leaf-count .ensures) (c .before .if2 .taken)) (c .refuse2 .ensures) in
-    (M .outcome, M .buffer)
+returns-2 c = refused-early _ (no-leaf-record _ _ (c .before .before .before .if1 .left) (c .before .before .leaf-count .ensures) (c .before .if2 .taken)) (c .refuse2 .ensures)
 
 refuse-requires-3 : tie.Need-refuse-requires-3
 refuse-requires-3 c κs = search needs
 
 returns-3 : tie.Need-returns-3
 unfolding answers.reads answers.numberOf
-returns-3 c = let M = refused-early _ _ _ _ _ _ (many-leaf-record _ _ (c .before .before .before .before .if1 .left) (c .before .before .before .leaf-count .ensures) (c .before .if3 .taken)) (c .refuse3 .ensures) in
-    (M .outcome, M .buffer)
+returns-3 c = refused-early _ (many-leaf-record _ _ (c .before .before .before .before .if1 .left) (c .before .before .before .leaf-count .ensures) (c .before .if3 .taken)) (c .refuse3 .ensures)
 
 record-length-requires : tie.Need-record-length-requires
 record-length-requires c κs = search needs
@@ -52,8 +49,7 @@ refuse-requires-4 c κs = search needs
 
 returns-4 : tie.Need-returns-4
 unfolding answers.reads answers.numberOf
-returns-4 c = let M = refused-early _ _ _ _ _ _ (length-fails _ _ _ (c .before .before .before .before .before .before .if1 .left) (c .before .before .before .before .before .leaf-count .ensures) (c .before .before .before .before .if2 .left) (c .before .before .before .if3 .left) (c .before .before .record-length .ensures) (c .before .if4 .taken)) (c .refuse4 .ensures) in
-    (M .outcome, M .buffer)
+returns-4 c = refused-early _ (length-fails _ _ _ (c .before .before .before .before .before .before .if1 .left) (c .before .before .before .before .before .leaf-count .ensures) (c .before .before .before .before .if2 .left) (c .before .before .before .if3 .left) (c .before .before .record-length .ensures) (c .before .if4 .taken)) (c .refuse4 .ensures)
 
 slice-aggregate-entries-of : tie.Need-slice-aggregate-entries-of
 slice-aggregate-entries-of c = search needs
@@ -86,8 +82,7 @@ returns-5 : tie.Need-returns-5
 unfolding answers.reads answers.numberOf
 returns-5 c = let H = headed-of _ _ _ (c .before .before .before .before .before .before .before .before .before .before .before .before .if1 .left) (c .before .before .before .before .before .before .before .before .before .before .before .leaf-count .ensures) (c .before .before .before .before .before .before .before .before .before .before .if2 .left) (c .before .before .before .before .before .before .before .before .before .if3 .left) (c .before .before .before .before .before .before .before .before .record-length .ensures) (c .before .before .before .before .before .before .before .if4 .left) in
     let h = rw (c .before .before .enum-told2 .given .1) at (c .before .before .before .before .before .entries-of .ensures) in
-    let M = short-room _ _ _ _ _ _ (record-accepted _ _ H (h .1) (h .2)) (length-entries _ _) (c .before .if5 .taken) (c .refuse7 .ensures) in
-    (M .outcome, M .buffer)
+    short-room _ _ (record-accepted _ _ H (h .1) (h .2)) (length-entries _ _) (c .before .if5 .taken) (c .refuse7 .ensures)
 
 slice-aggregate-copy-out : tie.Need-slice-aggregate-copy-out
 slice-aggregate-copy-out c = search needs
@@ -99,15 +94,13 @@ returns-6 : tie.Need-returns-6
 unfolding answers.reads answers.numberOf
 returns-6 c = let H = headed-of _ _ _ (c .before .before .before .before .before .before .before .before .before .before .before .before .if1 .left) (c .before .before .before .before .before .before .before .before .before .before .before .leaf-count .ensures) (c .before .before .before .before .before .before .before .before .before .before .if2 .left) (c .before .before .before .before .before .before .before .before .before .if3 .left) (c .before .before .before .before .before .before .before .before .record-length .ensures) (c .before .before .before .before .before .before .before .if4 .left) in
     let h = rw (c .before .before .i .given .1) at (c .before .before .before .before .before .entries-of .ensures) in
-    let M = refused-early _ _ _ _ _ _ (entry-refused _ _ _ H h) (c .refuse5 .ensures) in
-    (M .outcome, M .buffer)
+    refused-early _ (entry-refused _ _ _ H h) (c .refuse5 .ensures)
 
 returns-7 : tie.Need-returns-7
 unfolding answers.reads answers.numberOf
 returns-7 c = let H = headed-of _ _ _ (c .before .before .before .before .before .before .before .before .before .before .before .if1 .left) (c .before .before .before .before .before .before .before .before .before .before .leaf-count .ensures) (c .before .before .before .before .before .before .before .before .before .if2 .left) (c .before .before .before .before .before .before .before .before .if3 .left) (c .before .before .before .before .before .before .before .record-length .ensures) (c .before .before .before .before .before .before .if4 .left) in
     let h = rw (c .before .enum-told .given .1) at (c .before .before .before .before .entries-of .ensures) in
-    let M = refused-early _ _ _ _ _ _ (padding-refused _ _ H (h .0) (h .1)) (rw (← c .before .before .before .before .before .before .if4 .left) at (c .refuse6 .ensures)) in
-    (M .outcome, M .buffer)
+    refused-early _ (padding-refused _ _ H (h .0) (h .1)) (rw (← c .before .before .before .before .before .before .if4 .left) at (c .refuse6 .ensures))
 
 same-length : tie.Need-same-length
 same-length c = search needs
@@ -116,8 +109,7 @@ returns-8 : tie.Need-returns-8
 unfolding answers.reads answers.numberOf
 returns-8 c = let H = headed-of _ _ _ (c .before .before .before .before .before .before .before .before .before .before .before .before .before .before .before .before .if1 .left) (c .before .before .before .before .before .before .before .before .before .before .before .before .before .before .before .leaf-count .ensures) (c .before .before .before .before .before .before .before .before .before .before .before .before .before .before .if2 .left) (c .before .before .before .before .before .before .before .before .before .before .before .before .before .if3 .left) (c .before .before .before .before .before .before .before .before .before .before .before .before .record-length .ensures) (c .before .before .before .before .before .before .before .before .before .before .before .if4 .left) in
     let h = rw (c .before .before .before .before .before .before .enum-told2 .given .1) at (c .before .before .before .before .before .before .before .before .before .entries-of .ensures) in
-    let M = full-room _ _ _ _ _ _ (record-accepted _ _ H (h .1) (h .2)) (length-entries _ _) (c .before .before .before .before .before .if5 .left) (rw (h .0) at (c .before .before .copy-out .ensures)) in
-    (M .outcome, M .buffer)
+    full-list _ _ (record-accepted _ _ H (h .1) (h .2)) (length-entries _ _) (c .before .before .before .before .before .if5 .left) (rw (h .0) at (c .before .before .copy-out .ensures))
 
 pub unpack-spec : {M : Type 1} → statement M
 unpack-spec =

@@ -1,11 +1,11 @@
--- What a record that is read makes is settled by the conditions of its refusals.
--- Main results: settled-unpack, entries-made.
+-- Unpack: when it refuses, and that it writes an element a leaf.
+-- Main definition: RecordRefused. Main results: lawful-unpack, entries-made.
 use mathlib.Core.Bool.{Bool, true, false, cond}
 use mathlib.Core.List.{List}
 use mathlib.Core.Logic.{_≢_, _⊎_, inl, inr}
 use mathlib.Core.Option.{Option}
 use mathlib.Core.Path.{_≡_, refl, ap, _∙_}
-use Prim.Native.Nat.{ℕ, _-_, _≤_}
+use Prim.Native.Nat.{ℕ, _-_, _≤_, _<_}
 use native.Mathlib.Omega.{arith}
 use lib.Dec.{ltb}
 use lib.ListN.{length}
@@ -14,15 +14,28 @@ use Rattle.rules.specs.declared.Kind.the-variants.{LeafCount, InputLength, Entr
 use Rattle.rules.specs.Vector.{fault}
 use Rattle.rules.specs.Record.{recordLength, leafCount, entriesOf, padding, anySet}
 use Rattle.rules.specs.Answer.{numberOf, Made, made, refuses}
-use Rattle.rules.specs.Calls.{refuseIf, refuseAt, refuseCount, refuseLength, fromEntries, unpack}
+use Rattle.rules.specs.Guards.{refuseIf, refuseAt, refuseCount, refuseLength}
+use Rattle.rules.specs.Promise.{list}
+use Rattle.rules.specs.CallUnpack.{fromEntries, unpack, unpack-call}
 use Rattle.record_laws.specs.Inverse.{length-entries}
 use Rattle.laws.specs.Guards.{wrong-length, right-length}
-use Rattle.demands.specs.Given.{First, CountWrong, CountRight, Above, WithinBounds, PaddingSet, RecordRefused, record-short, record-1, record-2, record-4, record-10}
+use Rattle.demands.specs.Given.{First, CountWrong, CountRight, Above, WithinBounds, PaddingSet}
 use Rattle.demands.specs.FirstPlace.{padding-found}
-use Rattle.demands.specs.Settled.{OfInput, Settled, count-cases, count-given, count-passes, equal-cases, above-cases, above-given, within-given}
+use Rattle.demands.specs.Cases.{count-cases, count-given, count-passes, equal-cases, above-cases, above-given, within-given}
+use Rattle.demands.specs.Law.{OfInput, Settled, Lawful, lawful-made}
 
--- "Unpacking: 2 (under 2 bytes, place 2), 1, 2 (not the record's byte length), 4, 10"
-pub settled-unpack : (s : List ℕ) → Settled (RecordRefused s) (leafCount s) (unpack s)
+-- "Unpacking: 2 (under 2 bytes, place 2), 1, 2 (not the record's byte length), 4, 10"; the place of 10 is the last byte's number
+pub data RecordRefused (s : List ℕ) : ℕ → ℕ → Type 0 where
+  record-short : length s < 2 → RecordRefused s 2 2
+  record-1 : 2 ≤ length s → CountWrong (leafCount s) → RecordRefused s 1 0
+  record-2 : 2 ≤ length s → CountRight (leafCount s) → length s ≢ recordLength (leafCount s) → RecordRefused s 2 (recordLength (leafCount s))
+  record-4 : {i : ℕ} → 2 ≤ length s → CountRight (leafCount s) → length s ≡ recordLength (leafCount s)
+      → First (Above (entriesOf (leafCount s) s)) i → RecordRefused s 4 i
+  record-10 : 2 ≤ length s → CountRight (leafCount s) → length s ≡ recordLength (leafCount s)
+      → WithinBounds (entriesOf (leafCount s) s) → PaddingSet (leafCount s) s → RecordRefused s 10 (length s - 1)
+
+-- what is made is settled by these
+settled-unpack : (s : List ℕ) → Settled length 3 (RecordRefused s) (leafCount s) (unpack s)
 unfolding unpack refuseIf fromEntries refuseAt numberOf
 settled-unpack s = record {
   of-input = kinds;
@@ -45,7 +58,7 @@ settled-unpack s = record {
     whole : Made
     whole = cond (ltb (length s) 2) (refuses 2 2) (refuseCount (leafCount s) inner)
 
-    kinds : (k p : ℕ) → RecordRefused s k p → OfInput k
+    kinds : (k p : ℕ) → RecordRefused s k p → OfInput 3 k
     kinds k p (record-short h) = (InputLength, refl, omega arith)
     kinds k p (record-1 h c) = (LeafCount, refl, omega arith)
     kinds k p (record-2 h c l) = (InputLength, refl, omega arith)
@@ -95,3 +108,6 @@ entries-made s h c l w e =
     (count-passes (leafCount s) _ c
     ∙ right-length (recordLength (leafCount s)) (length s) _ l
     ∙ rw (within-given (entriesOf (leafCount s) s) w, e) refl)
+
+pub lawful-unpack : (s : List ℕ) → Lawful (unpack-call s) (RecordRefused s) (leafCount s)
+lawful-unpack s = lawful-made list (unpack s) (RecordRefused s) (leafCount s) (settled-unpack s)

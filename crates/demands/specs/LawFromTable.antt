@@ -1,5 +1,5 @@
--- What a table that is read makes is settled by the conditions of its refusals.
--- Main result: settled-from-table.
+-- Merge table to vector: when it refuses, and that it writes n elements.
+-- Main definition: TableRefused. Main result: lawful-from-table.
 use mathlib.Core.List.{List}
 use mathlib.Core.Logic.{_≢_, _⊎_, inl, inr}
 use mathlib.Core.Option.{none, some}
@@ -11,23 +11,33 @@ use Rattle.rules.specs.declared.Kind.the-variants.{LeafCount, InputLength, Pare
 use Rattle.rules.specs.Order.{vectorOf}
 use Rattle.rules.specs.Table.{Row, rowsOf, tableFault, tableTree}
 use Rattle.rules.specs.Answer.{numberOf, Made, made, refuses}
-use Rattle.rules.specs.Calls.{refuseFault, refuseCount, refuseLength, fromTable}
+use Rattle.rules.specs.Guards.{refuseFault, refuseCount, refuseLength}
+use Rattle.rules.specs.Promise.{list}
+use Rattle.rules.specs.CallFromTable.{fromTable, from-table-call}
 use Rattle.clades.specs.Size.{size-below}
 use Rattle.table_laws.specs.Flat.{rowsOf-length}
 use Rattle.rows.specs.Forest.{rows-make-a-tree}
 use Rattle.laws.specs.Guards.{wrong-length, right-length}
-use Rattle.demands.specs.Given.{CountWrong, CountRight, FirstRow, RowWrong, parent-wrong, child-not-below, child-named, TableRefused, table-1, table-2, table-row}
+use Rattle.demands.specs.Given.{CountWrong, CountRight, FirstRow, RowWrong, parent-wrong, child-not-below, child-named}
 use Rattle.demands.specs.FirstWrongRow.{row-found, row-unique}
-use Rattle.demands.specs.Settled.{OfInput, Settled, count-cases, count-given, count-passes, equal-cases, vector-long}
+use Rattle.demands.specs.Cases.{count-cases, count-given, count-passes, equal-cases}
+use Rattle.demands.specs.Law.{OfInput, Settled, Lawful, lawful-made}
+use Rattle.demands.specs.Long.{vector-long}
 
-row-of-input : (n : ℕ) (rs : List Row) (k t : ℕ) → RowWrong n rs k t → OfInput k
+-- "Table: 1, 2 (length not 3(n-1)), rows upward with 5, 6, 7 in each"
+pub data TableRefused (n : ℕ) (xs : List ℕ) : ℕ → ℕ → Type 0 where
+  table-1 : CountWrong n → TableRefused n xs 1 0
+  table-2 : CountRight n → length xs ≢ 3 * (n - 1) → TableRefused n xs 2 (3 * (n - 1))
+  table-row : {number t : ℕ} → CountRight n → length xs ≡ 3 * (n - 1) → FirstRow n (rowsOf xs) number t → TableRefused n xs number t
+
+row-of-input : (n : ℕ) (rs : List Row) (k t : ℕ) → RowWrong n rs k t → OfInput 3 k
 unfolding numberOf
 row-of-input n rs k t (h, parent-wrong a) = (Parent, refl, omega arith)
 row-of-input n rs k t (h, child-not-below a b) = (Child, refl, omega arith)
 row-of-input n rs k t (h, child-named a b c d) = (NamedBefore, refl, omega arith)
 
--- "Table: 1, 2 (length not 3(n-1)), rows upward with 5, 6, 7 in each"
-pub settled-from-table : (n : ℕ) (xs : List ℕ) → Settled (TableRefused n xs) n (fromTable n xs)
+-- what is made is settled by these
+settled-from-table : (n : ℕ) (xs : List ℕ) → Settled length 3 (TableRefused n xs) n (fromTable n xs)
 unfolding fromTable refuseFault numberOf
 settled-from-table n xs = record {
   of-input = kinds;
@@ -41,7 +51,7 @@ settled-from-table n xs = record {
     whole : Made
     whole = refuseCount n (refuseLength (3 * (n - 1)) (length xs) (refuseFault (tableFault n (rowsOf xs)) last))
 
-    kinds : (k t : ℕ) → TableRefused n xs k t → OfInput k
+    kinds : (k t : ℕ) → TableRefused n xs k t → OfInput 3 k
     kinds k t (table-1 c) = (LeafCount, refl, omega arith)
     kinds k t (table-2 c l) = (InputLength, refl, omega arith)
     kinds k t (table-row c l f) = row-of-input n (rowsOf xs) k t (f .0)
@@ -75,3 +85,6 @@ settled-from-table n xs = record {
       vector-long (tableTree n (rowsOf xs))
           ∙ size-below n (tableTree n (rowsOf xs)) (rows-make-a-tree n (rowsOf xs) (f .0) (rowsOf-length (n - 1) xs l) (c .0)),
     )
+
+pub lawful-from-table : (n : ℕ) (xs : List ℕ) → Lawful (from-table-call n xs) (TableRefused n xs) n
+lawful-from-table n xs = lawful-made list (fromTable n xs) (TableRefused n xs) n (settled-from-table n xs)
