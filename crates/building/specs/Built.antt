@@ -27,13 +27,18 @@ steps-none v n k s e = rw e
 follow-cong : (o p : Option Merge) (f g : Merge → List Merge) → o ≡ p → ((m : Merge) → f m ≡ g m) → follow o f ≡ follow p g
 follow-cong o p f g e h = ap₂ follow e (λ j m. h m j)
 
+-- the steps of the leaves below n are the same where the states agree on them
+agree-steps : (v : ℕ → ℕ) (n k : ℕ) (s t : State) → Agree n s t → steps v n k s ≡ steps v n k t
+unfolding steps
+agree-steps v n zero s t A = refl
+agree-steps v n (suc k) s t A =
+    follow-cong _ _ _ _ (next-cong v n s t A) (λ m. agree-steps v n k (merge s m) (merge t m) (merge-cong n s t A m))
+
 -- a leaf that names no cluster any more plays no part
-dead-steps : (v : ℕ → ℕ) (n k : ℕ) (s t : State) → Agree n s t → t .names n ≡ false → steps v (suc n) k t ≡ steps v n k s
+dead-steps : (v : ℕ → ℕ) (n k : ℕ) (s : State) → s .names n ≡ false → steps v (suc n) k s ≡ steps v n k s
 unfolding steps merge
-dead-steps v n zero s t A d = refl
-dead-steps v n (suc k) s t A d =
-    follow-cong _ _ _ _ (next-dead v t n d ∙ sym (next-cong v n s t A n (omega arith)))
-    (λ m. dead-steps v n k (merge s m) (merge t m) (merge-cong n s t A m) (rw (d, and-false)))
+dead-steps v n zero s d = refl
+dead-steps v n (suc k) s d = follow-cong _ _ _ _ (next-dead v s n d) (λ m. dead-steps v n k (merge s m) (rw (d, and-false)))
 
 -- the merge of leaf n is seen by none of the leaves below it
 own-agree : (n : ℕ) (s : State) (a : ℕ) → Agree n s (merge s (a, n))
@@ -47,6 +52,10 @@ own-agree n s a = record {
 own-dead : (n : ℕ) (s : State) (a : ℕ) → (merge s (a, n)) .names n ≡ false
 unfolding merge
 own-dead n s a = rw (eq-eqb n n refl)
+
+-- once leaf n has merged, the steps are those of the leaves below it
+own-steps : (v : ℕ → ℕ) (n k : ℕ) (s : State) (a : ℕ) → steps v (suc n) k (merge s (a, n)) ≡ steps v n k s
+own-steps v n k s a = dead-steps v n k (merge s (a, n)) (own-dead n s a) ∙ sym (agree-steps v n k s (merge s (a, n)) (own-agree n s a))
 
 -- after t merges of the leaves below n, leaf n still names a cluster, has used the n + t first labels, and labels by them
 record Room (n t : ℕ) (s : State) : Type 0 where
@@ -68,15 +77,15 @@ room-merge n t s R m h = record {
 
 -- leaf n gives no cluster its entry as a label yet: the step is that of the others
 blind : (v : ℕ → ℕ) (n t : ℕ) (s : State) → Room n t s → n + t ≤ v n → next v s (suc n) ≡ next v s n
-blind v n t s R h = next-blind v s n (sees-none s n (v n) n (λ c hc. omega (arith, R .labels c hc)))
+blind v n t s R h = next-blind v s n (sees-none s n (v n) (λ c hc. omega (arith, R .labels c hc)))
 
 -- the cluster just merged is the one that leaf n labels n + t
-gets : (v : ℕ → ℕ) (n t : ℕ) (s : State) → Room n t s → v n ≡ n + (t + 0) → (m : Merge) → Ready v s n m → sees (merge s m) n (v n) n ≡ some (m .0)
+gets : (v : ℕ → ℕ) (n t : ℕ) (s : State) → Room n t s → v n ≡ n + (t + 0) → (m : Merge) → Ready v s n m → sees (merge s m) n (v n) ≡ some (m .0)
 unfolding merge
 gets v n t s R e m F =
     let l : m .1 < n = F .leaf-below in
     let k : m .0 < m .1 = F .seen in
-    sees-at (merge s m) n (v n) (m .0) n (omega arith) (rw (ne-eqb (m .0) (m .1) (omega arith)) (F .smaller-names))
+    sees-at (merge s m) n (v n) (m .0) (omega arith) (rw (ne-eqb (m .0) (m .1) (omega arith)) (F .smaller-names))
     (rw (lt-ltb (m .1) n l, eq-eqb (m .0) (m .0) refl, R .has-used, unused-below (n + t)) (omega arith))
     (λ c hc ne. rw (lt-ltb (m .1) n l, ne-eqb c (m .0) ne) (omega (arith, R .labels c hc)))
 
@@ -91,7 +100,7 @@ now v n t k s R e l (some m) q =
     rw (
       steps-some v (suc n) (suc k) s m b,
       steps-some v (suc n) k s₁ (m .0, n) g,
-      dead-steps v n k s₁ (merge s₁ (m .0, n)) (own-agree n s₁ (m .0)) (own-dead n s₁ (m .0)),
+      own-steps v n k s₁ (m .0),
       steps-some v n k s m q,
     ) (sym (put-zero n m (steps v n k s₁)))
 
@@ -116,39 +125,49 @@ late v n zero t (suc k) s R e h l = now v n t k s R e l (next v s n) refl
 late v n (suc d) t (suc k) s R e h l =
     later v n d t k s R e l (next v s n) refl (λ s′ R′ l′. late v n d (suc t) k s′ R′ (omega arith) (omega arith) l′)
 
-start-room : (n : ℕ) → Room n 0 start
+start-room : (n : ℕ) → Room n 0 (start (suc n))
 unfolding start
-start-room n = record { has-used = ap below (let e : n ≡ n + 0 = omega arith in e); labels = λ c h. omega arith; own = refl }
+start-room n = record { has-used = ap below (let e : n ≡ n + 0 = omega arith in e); labels = λ c h. omega arith; own = lt-ltb n (suc n) (omega arith) }
 
-start-sees : (n x : ℕ) → x < n → sees start n x n ≡ some x
+start-sees : (n x : ℕ) → x < n → sees (start (suc n)) n x ≡ some x
 unfolding start
-start-sees n x h = sees-at start n x x n h refl refl (λ c hc ne. ne)
+start-sees n x h = sees-at (start (suc n)) n x x h (lt-ltb x (suc n) (omega arith)) refl (λ c hc ne. ne)
+
+-- that leaf n is there at the start is seen by none of the leaves below it
+start-steps : (v : ℕ → ℕ) (n k : ℕ) → steps v n k (start (suc n)) ≡ steps v n k (start n)
+unfolding start
+start-steps v n k = agree-steps v n k (start (suc n)) (start n) (record {
+  names-same = λ c h. rw (lt-ltb c n h, lt-ltb c (suc n) (omega arith));
+  label-same = λ j c h. refl;
+  used-same = λ j h. refl;
+})
 
 -- leaf n with an entry below n merges at once
-early : (v : ℕ → ℕ) (n k : ℕ) → v n < n → steps v (suc n) (suc k) start ≡ (v n, n) ∷ steps v n k start
-unfolding start
+early : (v : ℕ → ℕ) (n k : ℕ) → v n < n → steps v (suc n) (suc k) (start (suc n)) ≡ (v n, n) ∷ steps v n k (start n)
 early v n k h =
-    steps-some v (suc n) k start (v n, n) (next-takes v start n (v n) refl (start-sees n (v n) h))
-    ∙ ap (λ (P : List Merge). (v n, n) ∷ P) (dead-steps v n k start (merge start (v n, n)) (own-agree n start (v n)) (own-dead n start (v n)))
+    steps-some v (suc n) k (start (suc n)) (v n, n) (next-takes v (start (suc n)) n (v n) (start-room n .own) (start-sees n (v n) h))
+    ∙ ap (λ (P : List Merge). (v n, n) ∷ P) (own-steps v n k (start (suc n)) (v n) ∙ start-steps v n k)
 
-built-suc : (v : ℕ → ℕ) (m : ℕ) → Bounded v (suc m) → steps v (suc m) m start ≡ pairsOf v (suc m)
+built-suc : (v : ℕ → ℕ) (m : ℕ) → Bounded v (suc m) → steps v (suc m) m (start (suc m)) ≡ pairsOf v (suc m)
 unfolding steps pairsOf Bounded insert
 built-suc v zero ok = refl
 built-suc v (suc m) ok = go (ltb (v (suc m)) (suc m)) refl (built-suc v m (λ i h. ok i (omega arith)))
   where
-    go : (b : Bool) → ltb (v (suc m)) (suc m) ≡ b → steps v (suc m) m start ≡ pairsOf v (suc m)
-        → steps v (suc (suc m)) (suc m) start ≡ cond b ((v (suc m), suc m) ∷ pairsOf v (suc m)) (put (suc m) (v (suc m) - suc m) (pairsOf v (suc m)))
+    go : (b : Bool) → ltb (v (suc m)) (suc m) ≡ b → steps v (suc m) m (start (suc m)) ≡ pairsOf v (suc m)
+        → steps v (suc (suc m)) (suc m) (start (suc (suc m)))
+        ≡ cond b ((v (suc m), suc m) ∷ pairsOf v (suc m)) (put (suc m) (v (suc m) - suc m) (pairsOf v (suc m)))
     go true q ih = rw (early v (suc m) m (ltb-true (v (suc m)) (suc m) q), ih)
     go false q ih =
         let l : suc m ≤ v (suc m) = ltb-false (v (suc m)) (suc m) q in
+        let ih′ : steps v (suc m) m (start (suc (suc m))) ≡ pairsOf v (suc m) = start-steps v (suc m) m ∙ ih in
         rw (
-          late v (suc m) (v (suc m) - suc m) 0 m start (start-room (suc m)) (omega arith)
-              (omega (arith, ok (suc m) (omega arith))) (ap length ih ∙ pairs-length v m),
-          ih,
+          late v (suc m) (v (suc m) - suc m) 0 m (start (suc (suc m))) (start-room (suc m)) (omega arith)
+              (omega (arith, ok (suc m) (omega arith))) (ap length ih′ ∙ pairs-length v m),
+          ih′,
         )
 
 -- the steps of the rule are what insertion makes
-pub built : (v : ℕ → ℕ) (n : ℕ) → Bounded v n → steps v n (n - 1) start ≡ pairsOf v n
+pub built : (v : ℕ → ℕ) (n : ℕ) → Bounded v n → steps v n (n - 1) (start n) ≡ pairsOf v n
 unfolding steps pairsOf
 built v zero ok = refl
 built v (suc m) ok = rw (let e : suc m - 1 ≡ m = omega arith in e) (built-suc v m ok)

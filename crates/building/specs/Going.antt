@@ -9,7 +9,7 @@ use native.Mathlib.Omega.{arith}
 use lib.Dec.{eqb, ltb}
 use lib.ListN.{length, take, getD}
 use lib.Seq.{take-all}
-use borrow.Author.Tests.{ltb-true, ltb-false, eqb-true, eqb-false}
+use borrow.Author.Tests.{ltb-true, ltb-false, eqb-true, eqb-false, lt-ltb}
 use Rattle.rules.specs.Vector.{entry, Valid}
 use Rattle.rules.specs.Building.{Merge, State, start, next, merge, steps, merges}
 use Rattle.basics.specs.Bools.{and-false}
@@ -49,9 +49,9 @@ steps-go v n (suc k) s l t h = go (next v s n) refl (λ m. steps-go v n k (merge
 
 -- the rule finds a merge in each of its n-1 steps
 pub goes-on : (v : List ℕ) → Valid v → (k : ℕ) → suc k < length v
-    → next (entry v) (after (take k (merges v)) start) (length v) ≡ some (getD (merges v) k (0, 0))
+    → next (entry v) (after (take k (merges v)) (start (length v))) (length v) ≡ some (getD (merges v) k (0, 0))
 unfolding merges
-goes-on v ok k h = steps-go (entry v) (length v) (length v - 1) start (merges-length v ok) k (omega arith)
+goes-on v ok k h = steps-go (entry v) (length v) (length v - 1) (start (length v)) (merges-length v ok) k (omega arith)
 
 -- a cluster keeps its name where no merge takes it away, and loses it for good where one does
 kept : (P : List Merge) (s : State) (c : ℕ) → times c P ≡ 0 → (after P s) .names c ≡ s .names c
@@ -86,13 +86,20 @@ zero-stays v (suc zero) = refl
 zero-stays v (suc (suc m)) = omega (arith, times-insert 0 (suc m) (v (suc m)) (pairsOf v (suc m)), hit-other 0 (suc m) (omega arith), zero-stays v (suc m))
 
 -- "After n-1 steps one cluster is left", named 0
-pub one-left : (v : List ℕ) → Valid v → (c : ℕ) → c < length v → (after (merges v) start) .names c ≡ eqb c 0
+pub one-left : (v : List ℕ) → Valid v → (c : ℕ) → (after (merges v) (start (length v))) .names c ≡ eqb c 0
 unfolding start pairs
-one-left v ok c h = rw (merges-are-pairs v ok) (go (eqb c 0) refl)
+one-left v ok c = rw (merges-are-pairs v ok) (go (eqb c 0) refl)
   where
-    go : (b : Bool) → eqb c 0 ≡ b → (after (pairsOf (entry v) (length v)) start) .names c ≡ b
-    go true q = rw (eqb-true c 0 q) (kept (pairsOf (entry v) (length v)) start 0 (zero-stays (entry v) (length v)))
-    go false q = gone (pairsOf (entry v) (length v)) start c (once (entry v) (length v) c (omega (arith, eqb-false c 0 q)) h)
+    P : List Merge
+    P = pairsOf (entry v) (length v)
+
+    merged : (b : Bool) → ltb c (length v) ≡ b → 1 ≤ c → (after P (start (length v))) .names c ≡ false
+    merged true q h = gone P (start (length v)) c (once (entry v) (length v) c h (ltb-true c (length v) q))
+    merged false q h = stays-gone P (start (length v)) c q
+
+    go : (b : Bool) → eqb c 0 ≡ b → (after P (start (length v))) .names c ≡ b
+    go true q = rw (eqb-true c 0 q) (kept P (start (length v)) 0 (zero-stays (entry v) (length v)) ∙ lt-ltb 0 (length v) (ok .some-leaf))
+    go false q = merged (ltb c (length v)) refl (omega (arith, eqb-false c 0 q))
 
 after-next : (P : List Merge) (s : State) (k : ℕ) → k < length P → after (take (suc k) P) s ≡ merge (after (take k P) s) (getD P k (0, 0))
 unfolding after
@@ -101,57 +108,57 @@ after-next (m ∷ P) s zero h = refl
 after-next (m ∷ P) s (suc k) h = after-next P (merge s m) k (omega arith)
 
 -- the states that the rule reaches are those after its first k merges, k from 0 to n-1
-pub after-reached : (v : List ℕ) → Valid v → (k : ℕ) → k < length v → Reached (entry v) (length v) (after (take k (merges v)) start)
+pub after-reached : (v : List ℕ) → Valid v → (k : ℕ) → k < length v → Reached (entry v) (length v) (after (take k (merges v)) (start (length v)))
 unfolding after
 after-reached v ok zero h = starts
 after-reached v ok (suc k) h =
-    rw (after-next (merges v) start k (omega (arith, merges-length v ok))) (goes (after-reached v ok k (omega arith)) (goes-on v ok k h))
+    rw (after-next (merges v) (start (length v)) k (omega (arith, merges-length v ok))) (goes (after-reached v ok k (omega arith)) (goes-on v ok k h))
 
 -- no cluster but 0 is left where all merges are made
-alone : (v : List ℕ) → Valid v → (k : ℕ) → length v ≤ suc k → (c : ℕ) → 0 < c → c < length v → (after (take k (merges v)) start) .names c ≡ true → ⊥
-alone v ok k l c h lc e =
+alone : (v : List ℕ) → Valid v → (k : ℕ) → length v ≤ suc k → (c : ℕ) → 0 < c → (after (take k (merges v)) (start (length v))) .names c ≡ true → ⊥
+alone v ok k l c h e =
     let p : take k (merges v) ≡ merges v = take-all k (merges v) (omega (arith, merges-length v ok)) in
-    let z : eqb c 0 ≡ true = sym (one-left v ok c lc) ∙ rw p at e in
+    let z : eqb c 0 ≡ true = sym (one-left v ok c) ∙ rw p at e in
     omega (arith, eqb-true c 0 z)
 
 pub reached-after : (v : List ℕ) → Valid v → {s : State} → Reached (entry v) (length v) s
-    → (k : ℕ) × (k < length v) × (s ≡ after (take k (merges v)) start)
+    → (k : ℕ) × (k < length v) × (s ≡ after (take k (merges v)) (start (length v)))
 unfolding after
 reached-after v ok starts = (0, ok .some-leaf, refl)
 reached-after v ok (goes {s} {m} r e) = go (reached-after v ok r)
   where
-    go : (k : ℕ) × (k < length v) × (s ≡ after (take k (merges v)) start) → (k : ℕ) × (k < length v) × (merge s m ≡ after (take k (merges v)) start)
+    go : (k : ℕ) × (k < length v) × (s ≡ after (take k (merges v)) (start (length v))) → (k : ℕ) × (k < length v) × (merge s m ≡ after (take k (merges v)) (start (length v)))
     go w = more (ltb (suc (w .0)) (length v)) refl
       where
-        more : (b : Bool) → ltb (suc (w .0)) (length v) ≡ b → (k : ℕ) × (k < length v) × (merge s m ≡ after (take k (merges v)) start)
+        more : (b : Bool) → ltb (suc (w .0)) (length v) ≡ b → (k : ℕ) × (k < length v) × (merge s m ≡ after (take k (merges v)) (start (length v)))
         more true q =
             let l : suc (w .0) < length v = ltb-true (suc (w .0)) (length v) q in
             let p : some m ≡ some (getD (merges v) (w .0) (0, 0)) = sym e ∙ rw (w .2) (goes-on v ok (w .0) l) in
-            (suc (w .0), l, ap₂ merge (w .2) (Option·some-injective m (getD (merges v) (w .0) (0, 0)) p) ∙ sym (after-next (merges v) start (w .0) (omega (arith, merges-length v ok))))
+            (suc (w .0), l, ap₂ merge (w .2) (Option·some-injective m (getD (merges v) (w .0) (0, 0)) p) ∙ sym (after-next (merges v) (start (length v)) (w .0) (omega (arith, merges-length v ok))))
         more false q =
             let R = next-ready (entry v) s (length v) m e in
-            absurd (alone v ok (w .0) (ltb-false (suc (w .0)) (length v) q) (m .1) (omega (arith, R .seen)) (R .leaf-below) (rw (w .2) at (R .larger-names)))
+            absurd (alone v ok (w .0) (ltb-false (suc (w .0)) (length v) q) (m .1) (omega (arith, R .seen)) (rw (w .2) at (R .larger-names)))
 
 -- while two clusters are left some leaf can merge
-pub two-left-go-on : (v : List ℕ) → Valid v → {s : State} → Reached (entry v) (length v) s → (b c : ℕ) → b < c → c < length v
+pub two-left-go-on : (v : List ℕ) → Valid v → {s : State} → Reached (entry v) (length v) s → (b c : ℕ) → b < c
     → s .names b ≡ true → s .names c ≡ true
     → (m : Merge) × (next (entry v) s (length v) ≡ some m)
-two-left-go-on v ok {s} r b c lb lc nb nc = go (reached-after v ok r)
+two-left-go-on v ok {s} r b c lb nb nc = go (reached-after v ok r)
   where
-    go : (k : ℕ) × (k < length v) × (s ≡ after (take k (merges v)) start) → (m : Merge) × (next (entry v) s (length v) ≡ some m)
+    go : (k : ℕ) × (k < length v) × (s ≡ after (take k (merges v)) (start (length v))) → (m : Merge) × (next (entry v) s (length v) ≡ some m)
     go w = more (ltb (suc (w .0)) (length v)) refl
       where
         more : (b : Bool) → ltb (suc (w .0)) (length v) ≡ b → (m : Merge) × (next (entry v) s (length v) ≡ some m)
         more true q = (getD (merges v) (w .0) (0, 0), rw (w .2) (goes-on v ok (w .0) (ltb-true (suc (w .0)) (length v) q)))
-        more false q = absurd (alone v ok (w .0) (ltb-false (suc (w .0)) (length v) q) c (omega arith) lc (rw (w .2) at nc))
+        more false q = absurd (alone v ok (w .0) (ltb-false (suc (w .0)) (length v) q) c (omega arith) (rw (w .2) at nc))
 
 -- after n-1 steps no leaf can merge
-pub stops : (v : List ℕ) → Valid v → next (entry v) (after (merges v) start) (length v) ≡ none
-stops v ok = go (next (entry v) (after (merges v) start) (length v)) refl
+pub stops : (v : List ℕ) → Valid v → next (entry v) (after (merges v) (start (length v))) (length v) ≡ none
+stops v ok = go (next (entry v) (after (merges v) (start (length v))) (length v)) refl
   where
-    go : (o : Option Merge) → next (entry v) (after (merges v) start) (length v) ≡ o → o ≡ none
+    go : (o : Option Merge) → next (entry v) (after (merges v) (start (length v))) (length v) ≡ o → o ≡ none
     go none q = refl
     go (some m) q =
-        let R = next-ready (entry v) (after (merges v) start) (length v) m q in
-        let z : eqb (m .1) 0 ≡ true = sym (one-left v ok (m .1) (R .leaf-below)) ∙ R .larger-names in
+        let R = next-ready (entry v) (after (merges v) (start (length v))) (length v) m q in
+        let z : eqb (m .1) 0 ≡ true = sym (one-left v ok (m .1)) ∙ R .larger-names in
         absurd (omega (arith, eqb-true (m .1) 0 z, R .seen))

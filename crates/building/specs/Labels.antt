@@ -119,7 +119,7 @@ unused-below n = go (sym (member-below (smallestUnused (below n)) n) ∙ smalles
 
 -- The states that n leaves with the entries v come to: the start, and the state after the next merge.
 pub data Reached (v : ℕ → ℕ) (n : ℕ) : State → Type 0 where
-  starts : Reached v n start
+  starts : Reached v n (start n)
   goes : {s : State} {m : Merge} → Reached v n s → next v s n ≡ some m → Reached v n (merge s m)
 
 -- the labels that a leaf has used are the numbers below some number
@@ -144,9 +144,9 @@ record Apart (s : State) : Type 0 where
   known : (j c : ℕ) → c < j → member (s .label j c) (s .used j) ≡ true
   apart : (j b c : ℕ) → b < j → c < j → s .label j b ≡ s .label j c → b ≡ c
 
-start-apart : Apart start
+start-apart : (n : ℕ) → Apart (start n)
 unfolding start
-start-apart = record {
+start-apart n = record {
   known = λ j c h. member-below c j ∙ lt-ltb c j h;
   apart = λ j b c hb hc e. e;
 }
@@ -176,7 +176,7 @@ merge-apart s A m = record {
     two true false false j b c hq hr hb hc e = A .apart j b c hb hc e
 
 reached-apart : {v : ℕ → ℕ} {n : ℕ} {s : State} → Reached v n s → Apart s
-reached-apart starts = start-apart
+reached-apart {v} {n} starts = start-apart n
 reached-apart (goes {s} {m} r e) = merge-apart s (reached-apart r) m
 
 -- at most one of the clusters that leaf j sees has a given label

@@ -1,4 +1,5 @@
 pub mod Labels
+pub mod LastBelow
 pub mod Next
 pub mod Built
 pub mod Going

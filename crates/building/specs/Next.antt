@@ -1,63 +1,50 @@
 -- One step of the building rule: what a leaf sees, and that the next merge is the one that 01 says.
 -- Main definitions: Ready, Agree. Main results: next-ready, next-largest, next-none, next-cong.
-use mathlib.Core.Path.{_≡_, refl, sym, ap, _∙_, subst}
+use mathlib.Core.Path.{_≡_, refl, sym, subst}
 use mathlib.Core.Logic.{_≢_}
-use mathlib.Core.Bool.{Bool, true, false, _&&_, cond, true≢false}
-use mathlib.Core.Option.{Option, none, some, Option·none-ne-some, Option·some-injective}
-use Prim.Native.Nat.{ℕ, zero, suc, _≤_, _<_}
+use mathlib.Core.Bool.{Bool, true, false, _&&_, cond}
+use mathlib.Core.Option.{none, some, Option·map, map-eq-none-iff, map-eq-some-iff, Option·none-ne-some, Option·some-injective}
+use Prim.Native.Nat.{ℕ, suc, _≤_, _<_}
 use native.Mathlib.Omega.{arith}
-use lib.Dec.{eqb}
-use borrow.Author.Tests.{eqb-true, eqb-false, eq-eqb, ne-eqb}
-use Rattle.rules.specs.Building.{Merge, State, sees, orBelow, next, merge}
-use Rattle.basics.specs.Bools.{and-left, and-right}
+use lib.Dec.{eqb, ltb}
+use borrow.Author.Tests.{ltb-true, ltb-false, eqb-true, eq-eqb, ne-eqb}
+use Rattle.rules.specs.Building.{Merge, State, sees, mergeOf, next, merge}
+use Rattle.basics.specs.Bools.{and-left, and-right, and-false}
+use Rattle.building.specs.LastBelow.{Last, last-top, last-skip, last-some, last-none, is-last, none-last, last-cong}
 
 -- a leaf sees no cluster labelled x where it gives none that label
-pub sees-none : (s : State) (i x k : ℕ) → ((c : ℕ) → c < k → s .label i c ≢ x) → sees s i x k ≡ none
+pub sees-none : (s : State) (i x : ℕ) → ((c : ℕ) → c < i → s .label i c ≢ x) → sees s i x ≡ none
 unfolding sees
-sees-none s i x zero h = refl
-sees-none s i x (suc k) h = rw (ne-eqb (s .label i k) x (h k (omega arith))) (sees-none s i x k (λ c hc. h c (omega arith)))
+sees-none s i x h = none-last _ i (λ c l. rw (ne-eqb (s .label i c) x (h c l), and-false (s .names c)))
 
-pub sees-at : (s : State) (i x a k : ℕ) → a < k → s .names a ≡ true → s .label i a ≡ x → ((c : ℕ) → c < k → c ≢ a → s .label i c ≢ x)
-    → sees s i x k ≡ some a
+pub sees-at : (s : State) (i x a : ℕ) → a < i → s .names a ≡ true → s .label i a ≡ x → ((c : ℕ) → c < i → c ≢ a → s .label i c ≢ x)
+    → sees s i x ≡ some a
 unfolding sees
-sees-at s i x a zero ha al la h = absurd (omega arith)
-sees-at s i x a (suc k) ha al la h = go (eqb k a) refl (sees-at s i x a k)
-  where
-    go : (b : Bool) → eqb k a ≡ b
-        → (a < k → s .names a ≡ true → s .label i a ≡ x → ((c : ℕ) → c < k → c ≢ a → s .label i c ≢ x) → sees s i x k ≡ some a)
-        → sees s i x (suc k) ≡ some a
-    go true q ih = rw (eqb-true k a q, la, eq-eqb x x refl, al)
-    go false q ih =
-        rw (ne-eqb (s .label i k) x (h k (omega arith) (eqb-false k a q))) (ih (omega (arith, eqb-false k a q)) al la (λ c hc. h c (omega arith)))
+sees-at s i x a l al la h = is-last _ i a a (record {
+  within = l;
+  found = rw (al, eq-eqb (s .label i a) x la);
+  none-behind = λ c k m. rw (ne-eqb (s .label i c) x (h c m (omega arith)), and-false (s .names c));
+})
 
-sees-facts : (s : State) (i x k a : ℕ) → sees s i x k ≡ some a → (a < k) × (s .names a ≡ true) × (s .label i a ≡ x)
+-- what a leaf sees labelled x is a cluster named below it that it labels so
+sees-facts : (s : State) (i x a : ℕ) → sees s i x ≡ some a → (a < i) × (s .names a ≡ true) × (s .label i a ≡ x)
 unfolding sees
-sees-facts s i x zero a e = absurd (Option·none-ne-some a e)
-sees-facts s i x (suc k) a e = go (eqb (s .label i k) x && s .names k) refl e (sees-facts s i x k a)
+sees-facts s i x a e = let w = last-some _ i a e in go (w .0) (w .1) (s .names (w .0) && eqb (s .label i (w .0)) x) refl (w .1 .found)
   where
-    go : (b : Bool) → (eqb (s .label i k) x && s .names k) ≡ b → cond b (some k) (sees s i x k) ≡ some a
-        → (sees s i x k ≡ some a → (a < k) × (s .names a ≡ true) × (s .label i a ≡ x)) → (a < suc k) × (s .names a ≡ true) × (s .label i a ≡ x)
-    go true q e′ ih =
-        let p : k ≡ a = Option·some-injective k a e′ in (
-          omega arith,
-          rw (← p) (and-right (eqb (s .label i k) x) (s .names k) q),
-          rw (← p) (eqb-true (s .label i k) x (and-left (eqb (s .label i k) x) (s .names k) q)),
+    go : (c : ℕ) → Last (λ c. cond (s .names c && eqb (s .label i c) x) (some c) none) i c a
+        → (b : Bool) → (s .names c && eqb (s .label i c) x) ≡ b → cond b (some c) none ≡ some a → (a < i) × (s .names a ≡ true) × (s .label i a ≡ x)
+    go c L false q f = absurd (Option·none-ne-some a f)
+    go c L true q f =
+        let p : c ≡ a = Option·some-injective c a f in (
+          omega (arith, L .within),
+          rw (← p) (and-left (s .names c) (eqb (s .label i c) x) q),
+          rw (← p) (eqb-true (s .label i c) x (and-right (s .names c) (eqb (s .label i c) x) q)),
         )
-    go false q e′ ih = let r = ih e′ in (omega arith, r .1, r .2)
 
 -- a leaf that sees nothing labelled x gives no cluster that label
-sees-nothing : (s : State) (i x k : ℕ) → sees s i x k ≡ none → (c : ℕ) → c < k → s .names c ≡ true → s .label i c ≡ x → ⊥
+sees-nothing : (s : State) (i x : ℕ) → sees s i x ≡ none → (c : ℕ) → c < i → s .names c ≡ true → s .label i c ≡ x → ⊥
 unfolding sees
-sees-nothing s i x zero e c h al la = omega arith
-sees-nothing s i x (suc k) e c h al la = go (eqb (s .label i k) x && s .names k) refl e (λ e′ h′. sees-nothing s i x k e′ c h′ al la)
-  where
-    go : (b : Bool) → (eqb (s .label i k) x && s .names k) ≡ b → cond b (some k) (sees s i x k) ≡ none → (sees s i x k ≡ none → c < k → ⊥) → ⊥
-    go true q e′ ih = Option·none-ne-some k (sym e′)
-    go false q e′ ih = same (eqb c k) refl
-      where
-        same : (b : Bool) → eqb c k ≡ b → ⊥
-        same true r = let p : c ≡ k = eqb-true c k r in true≢false (sym al ∙ rw (← p, eq-eqb (s .label i c) x la) at q)
-        same false r = ih e′ (omega (arith, eqb-false c k r))
+sees-nothing s i x e c h al la = Option·none-ne-some c (sym (rw (al, eq-eqb (s .label i c) x la) at (last-none _ i e c h)))
 
 -- Leaf m .1 "still names a cluster and sees one labelled v(i)", the cluster m .0.
 pub record Ready (v : ℕ → ℕ) (s : State) (n : ℕ) (m : Merge) : Type 0 where
@@ -67,85 +54,64 @@ pub record Ready (v : ℕ → ℕ) (s : State) (n : ℕ) (m : Merge) : Type 0 wh
   pub larger-names : s .names (m .1) ≡ true
   pub labelled : s .label (m .1) (m .0) ≡ v (m .1)
 
-ready-more : (v : ℕ → ℕ) (s : State) (n k : ℕ) (m : Merge) → m .1 < k → Ready v s n m → Ready v s k m
-ready-more v s n k m h R = record {
-  leaf-below = h;
-  seen = R .seen;
-  smaller-names = R .smaller-names;
-  larger-names = R .larger-names;
-  labelled = R .labelled;
-}
-
--- what leaf i finds where it names a cluster
-found : (b : Bool) (o : Option ℕ) (a : ℕ) → cond b o none ≡ some a → (b ≡ true) × (o ≡ some a)
-found true o a e = (refl, e)
-found false o a e = absurd (Option·none-ne-some a e)
-
-last-ready : (v : ℕ → ℕ) (s : State) (n a : ℕ) → cond (s .names n) (sees s n (v n) n) none ≡ some a → Ready v s (suc n) (a, n)
-last-ready v s n a e =
-    let f = found (s .names n) (sees s n (v n) n) a e in
-    let g = sees-facts s n (v n) n a (f .1) in
-    record { leaf-below = omega arith; seen = g .0; smaller-names = g .1; larger-names = f .0; labelled = g .2 }
-
-last-blind : (v : ℕ → ℕ) (s : State) (n : ℕ) (m : Merge) → cond (s .names n) (sees s n (v n) n) none ≡ none → Ready v s (suc n) m → m .1 < n
-last-blind v s n m e R = go (eqb (m .1) n) refl
+-- a leaf's merge is one that it is ready for
+own-ready : (v : ℕ → ℕ) (s : State) (n i : ℕ) (m : Merge) → i < n → mergeOf v s i ≡ some m → (m .1 ≡ i) × Ready v s n m
+unfolding mergeOf
+own-ready v s n i m l e = go (s .names i) refl e
   where
-    go : (b : Bool) → eqb (m .1) n ≡ b → m .1 < n
-    go true q =
-        let p : m .1 ≡ n = eqb-true (m .1) n q in
-        let al : s .names n ≡ true = rw p at (R .larger-names) in
-        let la : s .label n (m .0) ≡ v n = rw p at (R .labelled) in
-        absurd (sees-nothing s n (v n) n (rw al at e) (m .0) (omega (arith, R .seen)) (R .smaller-names) la)
-    go false q = omega (arith, eqb-false (m .1) n q, R .leaf-below)
+    go : (b : Bool) → s .names i ≡ b → cond b (Option·map {B = Merge} (λ a. (a, i)) (sees s i (v i))) none ≡ some m → (m .1 ≡ i) × Ready v s n m
+    go false q e′ = absurd (Option·none-ne-some m e′)
+    go true q e′ =
+        let w = map-eq-some-iff {B = Merge} (λ a. (a, i)) (sees s i (v i)) .0 e′ in
+        let g = sees-facts s i (v i) (w .0) (w .1) in
+        subst (λ (p : Merge). (p .1 ≡ i) × Ready v s n p) (w .2)
+        (refl, record { leaf-below = l; seen = g .0; smaller-names = g .1; larger-names = q; labelled = g .2 })
+
+-- a leaf that is ready has a merge
+ready-own : (v : ℕ → ℕ) (s : State) (n : ℕ) (m : Merge) → Ready v s n m → mergeOf v s (m .1) ≡ none → ⊥
+unfolding mergeOf
+ready-own v s n m R e =
+    sees-nothing s (m .1) (v (m .1)) (map-eq-none-iff {B = Merge} (λ a. (a, m .1)) (sees s (m .1) (v (m .1))) .0 (rw (R .larger-names) at e))
+    (m .0) (R .seen) (R .smaller-names) (R .labelled)
 
 -- the next merge is of a leaf that "still names a cluster and sees one labelled v(i)", with that one
 pub next-ready : (v : ℕ → ℕ) (s : State) (n : ℕ) (m : Merge) → next v s n ≡ some m → Ready v s n m
 unfolding next
-next-ready v s zero m e = absurd (Option·none-ne-some m e)
-next-ready v s (suc n) m e = go (cond (s .names n) (sees s n (v n) n) none) refl e (next-ready v s n m)
-  where
-    go : (o : Option ℕ) → cond (s .names n) (sees s n (v n) n) none ≡ o → orBelow n o (next v s n) ≡ some m
-        → (next v s n ≡ some m → Ready v s n m) → Ready v s (suc n) m
-    go none q e′ ih = let R = ih e′ in ready-more v s n (suc n) m (omega (arith, R .leaf-below)) R
-    go (some a) q e′ ih = subst (Ready v s (suc n)) (Option·some-injective (a, n) m e′) (last-ready v s n a q)
+next-ready v s n m e = let w = last-some (mergeOf v s) n m e in own-ready v s n (w .0) m (w .1 .within) (w .1 .found) .1
 
 -- "the largest i"
 pub next-largest : (v : ℕ → ℕ) (s : State) (n : ℕ) (m : Merge) → next v s n ≡ some m → (p : Merge) → Ready v s n p → p .1 ≤ m .1
 unfolding next
-next-largest v s zero m e p R = absurd (Option·none-ne-some m e)
-next-largest v s (suc n) m e p R = go (cond (s .names n) (sees s n (v n) n) none) refl e (λ e′ h. next-largest v s n m e′ p (ready-more v s (suc n) n p h R))
+next-largest v s n m e p R =
+    let w = last-some (mergeOf v s) n m e in
+    let i : m .1 ≡ w .0 = own-ready v s n (w .0) m (w .1 .within) (w .1 .found) .0 in
+    go (w .0) i (w .1) (ltb (m .1) (p .1)) refl
   where
-    go : (o : Option ℕ) → cond (s .names n) (sees s n (v n) n) none ≡ o → orBelow n o (next v s n) ≡ some m
-        → (next v s n ≡ some m → p .1 < n → p .1 ≤ m .1) → p .1 ≤ m .1
-    go none q e′ ih = ih e′ (last-blind v s n p q R)
-    go (some a) q e′ ih = let f = ap (λ (t : Merge). t .1) (Option·some-injective (a, n) m e′) in omega (arith, R .leaf-below)
+    go : (j : ℕ) → m .1 ≡ j → Last (mergeOf v s) n j m → (b : Bool) → ltb (m .1) (p .1) ≡ b → p .1 ≤ m .1
+    go j i L true q = absurd (ready-own v s n p R (L .none-behind (p .1) (omega (arith, ltb-true (m .1) (p .1) q)) (R .leaf-below)))
+    go j i L false q = ltb-false (m .1) (p .1) q
 
 -- there is a next merge where some leaf is ready
 pub next-none : (v : ℕ → ℕ) (s : State) (n : ℕ) → next v s n ≡ none → (p : Merge) → Ready v s n p → ⊥
 unfolding next
-next-none v s zero e p R = omega (arith, R .leaf-below)
-next-none v s (suc n) e p R = go (cond (s .names n) (sees s n (v n) n) none) refl e (λ e′ h. next-none v s n e′ p (ready-more v s (suc n) n p h R))
-  where
-    go : (o : Option ℕ) → cond (s .names n) (sees s n (v n) n) none ≡ o → orBelow n o (next v s n) ≡ none → (next v s n ≡ none → p .1 < n → ⊥) → ⊥
-    go none q e′ ih = ih e′ (last-blind v s n p q R)
-    go (some a) q e′ ih = Option·none-ne-some (a, n) (sym e′)
+next-none v s n e p R = ready-own v s n p R (last-none (mergeOf v s) n e (p .1) (R .leaf-below))
 
 -- leaf n passed over, where it names no cluster or sees none labelled v(n); and leaf n taken
 pub next-dead : (v : ℕ → ℕ) (s : State) (n : ℕ) → s .names n ≡ false → next v s (suc n) ≡ next v s n
-unfolding next
-next-dead v s n e = rw e
+unfolding next mergeOf
+next-dead v s n e = last-skip (mergeOf v s) n (rw e)
 
-pub next-blind : (v : ℕ → ℕ) (s : State) (n : ℕ) → sees s n (v n) n ≡ none → next v s (suc n) ≡ next v s n
-unfolding next
-next-blind v s n h = go (s .names n) refl
+pub next-blind : (v : ℕ → ℕ) (s : State) (n : ℕ) → sees s n (v n) ≡ none → next v s (suc n) ≡ next v s n
+unfolding next mergeOf
+next-blind v s n h = last-skip (mergeOf v s) n (go (s .names n))
   where
-    go : (b : Bool) → s .names n ≡ b → next v s (suc n) ≡ next v s n
-    go true e = rw (e, h)
-    go false e = rw e
+    go : (b : Bool) → cond b (Option·map {B = Merge} (λ a. (a, n)) (sees s n (v n))) none ≡ none
+    go true = rw h
+    go false = refl
 
-pub next-takes : (v : ℕ → ℕ) (s : State) (n a : ℕ) → s .names n ≡ true → sees s n (v n) n ≡ some a → next v s (suc n) ≡ some (a, n)
-unfolding next
-next-takes v s n a e h = rw (e, h)
+pub next-takes : (v : ℕ → ℕ) (s : State) (n a : ℕ) → s .names n ≡ true → sees s n (v n) ≡ some a → next v s (suc n) ≡ some (a, n)
+unfolding next mergeOf
+next-takes v s n a e h = last-top (mergeOf v s) n (a, n) (rw (e, h))
 
 -- two states that agree on the leaves below n
 pub record Agree (n : ℕ) (s t : State) : Type 0 where
@@ -153,16 +119,13 @@ pub record Agree (n : ℕ) (s t : State) : Type 0 where
   pub label-same : (j c : ℕ) → j < n → s .label j c ≡ t .label j c
   pub used-same : (j : ℕ) → j < n → s .used j ≡ t .used j
 
-sees-cong : (n : ℕ) (s t : State) → Agree n s t → (i x k : ℕ) → i < n → k ≤ n → sees s i x k ≡ sees t i x k
+sees-cong : (n : ℕ) (s t : State) → Agree n s t → (i x : ℕ) → i < n → sees s i x ≡ sees t i x
 unfolding sees
-sees-cong n s t A i x zero hi hk = refl
-sees-cong n s t A i x (suc k) hi hk = rw (A .names-same k (omega arith), A .label-same i k hi, sees-cong n s t A i x k hi (omega arith))
+sees-cong n s t A i x h = last-cong _ _ i (λ c l. rw (A .names-same c (omega arith), A .label-same i c h))
 
-pub next-cong : (v : ℕ → ℕ) (n : ℕ) (s t : State) → Agree n s t → (k : ℕ) → k ≤ n → next v s k ≡ next v t k
-unfolding next
-next-cong v n s t A zero hk = refl
-next-cong v n s t A (suc k) hk =
-    rw (A .names-same k (omega arith), sees-cong n s t A k (v k) k (omega arith) (omega arith), next-cong v n s t A k (omega arith))
+pub next-cong : (v : ℕ → ℕ) (n : ℕ) (s t : State) → Agree n s t → next v s n ≡ next v t n
+unfolding next mergeOf
+next-cong v n s t A = last-cong (mergeOf v s) (mergeOf v t) n (λ i h. rw (A .names-same i h, sees-cong n s t A i (v i) h))
 
 pub merge-cong : (n : ℕ) (s t : State) → Agree n s t → (m : Merge) → Agree n (merge s m) (merge t m)
 unfolding merge

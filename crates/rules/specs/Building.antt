@@ -1,8 +1,8 @@
 -- The building rule of a vector, word for word: what each leaf sees, how it labels, and which merge comes next.
--- Main definitions: State, start, next, merge, merges.
-use mathlib.Core.Bool.{Bool, true, false, not, _&&_, _||_, cond}
+-- Main definitions: State, start, lastBelow, sees, next, merge, merges.
+use mathlib.Core.Bool.{Bool, false, not, _&&_, _||_, cond}
 use mathlib.Core.List.{List, [], _∷_}
-use mathlib.Core.Option.{Option, none, some}
+use mathlib.Core.Option.{Option, none, some, orElse, Option·map}
 use Prim.Native.Nat.{ℕ, zero, suc, _+_, _-_}
 use lib.Dec.{eqb, ltb}
 use lib.ListN.{length}
@@ -23,10 +23,10 @@ unfoldable pub below : ℕ → List ℕ
 below zero = []
 below (suc n) = n ∷ below n
 
--- "Every leaf starts as a cluster named by itself. Leaf i sees only clusters named below i, first labelled by name."
-unfoldable pub start : State
+-- "Every leaf starts as a cluster named by itself", leaves 0 to n-1, "first labelled by name", so leaf j has used the labels below j
+unfoldable pub start : ℕ → State
 unfolding below
-start = record { names = λ c. true; label = λ j c. c; used = below }
+start n = record { names = λ c. ltb c n; label = λ j c. c; used = below }
 
 unfoldable pub member : ℕ → List ℕ → Bool
 member x [] = false
@@ -43,21 +43,26 @@ unfoldable pub smallestUnused : List ℕ → ℕ
 unfolding smallestFrom
 smallestUnused ys = smallestFrom (length ys) 0 ys
 
--- the cluster named below k that leaf i sees labelled x
-unfoldable pub sees : State → ℕ → ℕ → ℕ → Option ℕ
-sees s i x zero = none
-sees s i x (suc c) = cond (eqb (s .label i c) x && s .names c) (some c) (sees s i x c)
+-- what is found at the greatest number below k at which something is found
+unfoldable pub lastBelow : {A : Type 0} → (ℕ → Option A) → ℕ → Option A
+unfolding orElse
+lastBelow find zero = none
+lastBelow find (suc k) = orElse (find k) (lastBelow find k)
 
--- leaf i merges with the cluster that it sees; where it sees none, what is found among the leaves below i counts
-unfoldable pub orBelow : ℕ → Option ℕ → Option Merge → Option Merge
-orBelow i (some a) m = some (a, i)
-orBelow i none m = m
+-- "Leaf i sees only clusters named below i": the one that it sees labelled x
+unfoldable pub sees : State → ℕ → ℕ → Option ℕ
+unfolding lastBelow
+sees s i x = lastBelow (λ c. cond (s .names c && eqb (s .label i c) x) (some c) none) i
 
--- "the largest i that still names a cluster and sees one labelled v(i) merges with that one", i below n
+-- leaf i, where it "still names a cluster and sees one labelled v(i), merges with that one"
+unfoldable pub mergeOf : (ℕ → ℕ) → State → ℕ → Option Merge
+unfolding sees
+mergeOf v s i = cond (s .names i) (Option·map (λ a. (a, i)) (sees s i (v i))) none
+
+-- "At each step the largest i": the merge of the largest leaf below n that has one
 unfoldable pub next : (ℕ → ℕ) → State → ℕ → Option Merge
-unfolding sees orBelow
-next v s zero = none
-next v s (suc i) = orBelow i (cond (s .names i) (sees s i (v i) i) none) (next v s i)
+unfolding lastBelow mergeOf
+next v s n = lastBelow (mergeOf v s) n
 
 -- "The merged cluster keeps the smaller name. Each leaf j > i gives it the smallest label j has not used;
 -- others go on calling it by the label they had."
@@ -83,4 +88,4 @@ steps v n (suc k) s = follow (next v s n) (λ m. steps v n k (merge s m))
 -- "After n-1 steps one cluster is left": the merges of a vector, in their order
 unfoldable pub merges : List ℕ → List Merge
 unfolding steps start entry
-merges v = steps (entry v) (length v) (length v - 1) start
+merges v = steps (entry v) (length v) (length v - 1) (start (length v))
