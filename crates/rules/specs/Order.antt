@@ -1,5 +1,8 @@
 -- The vector of a tree, by the two facts of 01: the order of its merges, and each entry from that order.
 -- Main definitions: ready, best, order, earlier, entryAt, vectorOf.
+-- What vectorOf gives is no matter of belief. Whatever the definitions below say, `laws OneToOne` proves of every tree whose leaves are 0
+-- to n-1, each once: vectorOf gives a valid vector of n entries whose tree has the clades of the given tree (every-tree), and no other
+-- valid vector's tree has these clades (only-vector). To be believed is the building rule, which makes a tree of a vector.
 use mathlib.Core.Bool.{Bool, false, _&&_, cond}
 use mathlib.Core.List.{List, [], _∷_, _++_}
 use mathlib.Core.Option.{Option, none, some}
