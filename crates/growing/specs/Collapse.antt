@@ -15,7 +15,7 @@ use Rattle.basics.specs.Bools.{or-left, or-no, or-comm, and-left, and-right}
 use Rattle.clades.specs.Leaves.{has-left, distinct-swap, lacks}
 use Rattle.clades.specs.Form.{join, form, form-has, form-least, form-size, form-distinct, form-swap}
 use Rattle.growing.specs.Grown.{graft, has-graft, graft-other, least-graft, size-graft, join-graft}
-use Rattle.growing.specs.Ready.{Ready, Sides, ready-sides, ready-has, ready-rising}
+use Rattle.growing.specs.Ready.{Ready, Sides, ready-sides, ready-has, ready-rising, open-left, open-right}
 
 is-merge : (m : Merge) (o : Option Merge) → isMerge m o ≡ true → o ≡ some m
 unfolding isMerge
@@ -56,18 +56,6 @@ collapse-other m (node l r) e =
     go : Cases m l r → collapse m l ≡ l → collapse m r ≡ r → collapse m (node l r) ≡ node l r
     go (inl h) a b = absurd (true≢false (sym (ready-has m (node l r) (unfold Ready in inl (h .0)) .0) ∙ e))
     go (inr h) a b = h ∙ ap₂ node a b
-
--- a part with a ready pair is not complete
-pub open-left : (m : Merge) (l r : Tree) → Ready m l → ready l r ≡ none
-unfolding Ready ready
-open-left m (leaf x) r h = absurd h
-open-left m (node a b) r h = refl
-
-pub open-right : (m : Merge) (l r : Tree) → Ready m r → ready l r ≡ none
-unfolding Ready ready
-open-right m (leaf x) (leaf y) h = absurd h
-open-right m (leaf x) (node a b) h = refl
-open-right m (node a b) r h = refl
 
 collapse-inner : (m : Merge) (l r : Tree) → ready l r ≡ none → collapse m (node l r) ≡ node (collapse m l) (collapse m r)
 unfolding collapse isMerge

@@ -2,6 +2,7 @@
 -- are there, the one whose larger name is greatest is merged next.
 -- Main definition: Complete. Main result: next-complete.
 use mathlib.Core.Path.{_≡_, refl, sym, ap, _∙_}
+use mathlib.Core.Logic.{_⊎_}
 use mathlib.Core.Bool.{true}
 use mathlib.Core.List.{List, _∷_, _++_}
 use Prim.Native.Nat.{ℕ, suc, _<_, min, max}
@@ -12,15 +13,16 @@ use borrow.Author.Tests.{eq-eqb}
 use Rattle.rules.specs.Building.{Merge}
 use Rattle.rules.specs.Tree.{leaf, node, Clusters, grown, has}
 use Rattle.clades.specs.Leaves.{Inside}
+use Rattle.clades.specs.Form.{Turned, form-turned}
 use Rattle.merging.specs.Once.{times}
 use Rattle.merging.specs.Greedy.{Greedy}
 use Rattle.merging.specs.Named.{Good, Rising, smaller-named, larger-named}
-use Rattle.merging.specs.Rest.{rest-there, there-rest, good-rest, rising-rest, greedy-rest}
-use Rattle.growing.specs.Grown.{filled, grown-filled, grown-graft, grown-append, grown-keeps, has-grown, distinct-grown}
+use Rattle.merging.specs.Rest.{rest-there, there-rest, good-rest, rising-rest, rising-first, greedy-rest}
+use Rattle.growing.specs.Grown.{filled, grown-filled, grown-graft, grown-append, grown-keeps, has-grown, distinct-grown, form-grown, least-grown}
 use Rattle.growing.specs.Ready.{Ready, Greatest}
-use Rattle.growing.specs.Fact1.{after, fact-1-grown}
+use Rattle.growing.specs.OrderOf.{first-greatest}
 use Rattle.growing.specs.Clusters.{clusters-ready}
-use Rattle.growing.specs.Part.{Part, part-inside-both, part-filled, part-own}
+use Rattle.growing.specs.Part.{Part, part-inside-both, part-turned, part-filled, part-own}
 
 -- after the merges Q, of the tree that the merges P build: p is one of its pairs, both its clusters are there and neither is merged away
 pub record Complete (Q P : List Merge) (p : Merge) : Type 0 where
@@ -59,11 +61,23 @@ module _ (Q : List Merge) (m : Merge) (R : List Merge) (g : Rising (Q ++ (m ∷ 
       own : Good (m ∷ R) → Part (node (leaf (m .0)) (leaf (m .1))) (grown (m ∷ R) leaf 0)
       own k = rw (grown-graft m R 0) (part-own m (grown R leaf 0) (unfold Good in has-grown R (k .2) (m .0) ∙ k .0))
 
+  -- a complete pair has its smaller name first
+  complete-rising : (p : Merge) → Complete Q (Q ++ (m ∷ R)) p → p .0 < p .1
+  unfolding Turned
+  complete-rising p K =
+      let T : Turned (grown (Q ++ (m ∷ R)) leaf 0) = rw (form-grown (Q ++ (m ∷ R)) g) at (form-turned (grown (Q ++ (m ∷ R)) leaf 0) (distinct-grown (Q ++ (m ∷ R)) g G)) in
+      let l = part-turned (node (grown Q leaf (p .0)) (grown Q leaf (p .1))) (grown (Q ++ (m ∷ R)) leaf 0) (K .pair) T .0 in
+      let r = rising-first Q (m ∷ R) g in
+      omega (arith, least-grown Q r (p .0), least-grown Q r (p .1))
+
   next-after : Greatest (Complete Q (Q ++ (m ∷ R))) m
-  next-after = record { is-one = own-complete; above = λ p K. omega (arith, top .above (min (p .0) (p .1), max (p .0) (p .1)) (complete-ready p K)) }
+  next-after = record { is-one = own-complete; others-below = λ p K. below p (complete-rising p K) (complete-ready p K) }
     where
-      top : Greatest (λ p. Ready p (grown (m ∷ R) leaf 0)) m
-      top = unfold after in fact-1-grown (m ∷ R) (rising-rest Q (m ∷ R) g) (good-rest Q (m ∷ R) G) (greedy-rest Q (m ∷ R) H) 0 (omega arith)
+      below : (p : Merge) → p .0 < p .1 → Ready (min (p .0) (p .1), max (p .0) (p .1)) (grown (m ∷ R) leaf 0) → (p ≡ m) ⊎ (p .1 < m .1)
+      below p l h =
+          let a : min (p .0) (p .1) ≡ p .0 = omega arith in
+          let b : max (p .0) (p .1) ≡ p .1 = omega arith in
+          first-greatest m R (rising-rest Q (m ∷ R) g) (good-rest Q (m ∷ R) G) (greedy-rest Q (m ∷ R) H) .others-below p (rw (a, b) at h)
 
 -- merge number k is, of the pairs that are complete after the first k merges, the one whose larger name is greatest
 pub next-complete : (P : List Merge) → Rising P → Good P → Greedy P → (k : ℕ) → k < length P → Greatest (Complete (take k P) P) (getD P k (0, 0))

@@ -1,6 +1,6 @@
 -- The tree that merges build. The first merge (a, i) makes of the leaf a of the tree of the others the parts a and i.
 -- Main definitions: filled, graft. Main results: grown-filled, grown-graft, grown-append, grown-keeps, has-grown, distinct-grown,
--- form-grown, size-grown, grown-below.
+-- form-grown, least-grown, size-grown, grown-below.
 use mathlib.Core.Path.{_≡_, refl, sym, ap, ap₂, _∙_}
 use mathlib.Core.Logic.{_≢_, _⊎_, inl, inr, ⊎-elim}
 use mathlib.Core.Bool.{Bool, true, false, _&&_, _||_, cond, true≢false}
@@ -132,6 +132,12 @@ pub form-grown : (P : List Merge) → Rising P → form (grown P leaf 0) ≡ gro
 unfolding Rising
 form-grown [] g = unfold form grown in refl
 form-grown (m ∷ P) g = rw (grown-graft m P 0, form-graft m (g .0) (grown P leaf 0), form-grown P (g .1))
+
+-- each cluster has the name of its least leaf
+pub least-grown : (P : List Merge) → Rising P → (x : ℕ) → least (grown P leaf x) ≡ x
+unfolding Rising
+least-grown [] g x = unfold least grown in refl
+least-grown (m ∷ P) g x = rw (grown-graft m P x, least-graft m (g .0) (grown P leaf x)) (least-grown P (g .1) x)
 
 -- where a leaf of a graft comes from
 in-graft : (m : Merge) (t : Tree) (x : ℕ) → has (graft m t) x ≡ true → (has t x ≡ true) ⊎ ((has t (m .0) ≡ true) × (m .1 ≡ x))

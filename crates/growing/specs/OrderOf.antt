@@ -1,6 +1,6 @@
 -- The order of a tree's merges: of the ready pairs the one with the greatest larger name comes first.
 -- Lists of merges in that order and trees up to turning are the same thing.
--- Main definition: Step. Main results: order-of-grown, order-induct, order-rising, order-good, order-greedy, order-named, order-under,
+-- Main definition: Step. Main results: first-greatest, order-of-grown, order-induct, order-rising, order-good, order-greedy, order-named, order-under,
 -- order-once, grown-order, order-turned, same-order.
 use mathlib.Core.Path.{_≡_, refl, sym, ap, _∙_}
 use mathlib.Core.Logic.{_≢_, _⊎_, inl, inr, ⊎-elim}
@@ -53,15 +53,22 @@ front i Q (m ∷ P) g G A p h e = go (ready-graft m p (g .0) (grown P leaf 0) (r
     go (inl q) ih = rw q (A .0 (rw q at e))
     go (inr k) ih = ih (k .0) (still-free m Q P G p (k .0) (k .1) e)
 
+-- of the ready pairs of the tree that merges build, the first merge is the one whose larger name is greatest
+pub first-greatest : (m : Merge) (P : List Merge) → Rising (m ∷ P) → Good (m ∷ P) → Greedy (m ∷ P) → Greatest (λ p. Ready p (grown (m ∷ P) leaf 0)) m
+unfolding Rising Good Greedy
+first-greatest m P g G H = rw (grown-graft m P 0) (record {
+  is-one = ready-own m (g .0) (grown P leaf 0) (has-grown P (G .2) (m .0) ∙ G .0);
+  others-below = λ p h. ⊎-elim (λ e. inl e)
+      (λ k. inr (front (m .1) (m ∷ []) P (g .1) (G .2) (H .0) p (k .0) (still-free m [] P G p (k .0) (k .1) (unfold free in refl))))
+      (ready-graft m p (g .0) (grown P leaf 0) h);
+})
+
 ordered-grown : (P : List Merge) → Rising P → Good P → Greedy P → ordered (length P) (grown P leaf 0) ≡ P
 unfolding Rising Good Greedy ordered
 ordered-grown [] g G H = refl
-ordered-grown (m ∷ P) g G H = rw (grown-graft m P 0, top, collapse-graft m (g .0) (grown P leaf 0), ordered-grown P (g .1) (G .2) (H .1))
-  where
-    top : best (graft m (grown P leaf 0)) ≡ some m
-    top = best-is (graft m (grown P leaf 0)) m (ready-own m (g .0) (grown P leaf 0) (has-grown P (G .2) (m .0) ∙ G .0))
-        (λ p h. ⊎-elim (λ e. inl e) (λ k. inr (front (m .1) (m ∷ []) P (g .1) (G .2) (H .0) p (k .0) (still-free m [] P G p (k .0) (k .1) (unfold free in refl))))
-        (ready-graft m p (g .0) (grown P leaf 0) h))
+ordered-grown (m ∷ P) g G H =
+    let top : best (graft m (grown P leaf 0)) ≡ some m = rw (grown-graft m P 0) at (best-is (grown (m ∷ P) leaf 0) m (first-greatest m P g G H)) in
+    rw (grown-graft m P 0, top, collapse-graft m (g .0) (grown P leaf 0), ordered-grown P (g .1) (G .2) (H .1))
 
 -- merges in the order of the rule are the merges of the tree that they build, in its order
 pub order-of-grown : (P : List Merge) → Rising P → Good P → Greedy P → order (grown P leaf 0) ≡ P
@@ -80,7 +87,7 @@ pub record Step (m : Merge) (t : Tree) : Type 0 where
 
 step : (m : Merge) (t : Tree) → Distinct t → best t ≡ some m → Step m t
 step m t D e =
-    let g = best-greatest t m e in record { is-best = e; top = g; rises = ready-rising m t D (g .is-one); back = collapsed m t D (g .is-one) }
+    let g = best-greatest t m D e in record { is-best = e; top = g; rises = ready-rising m t D (g .is-one); back = collapsed m t D (g .is-one) }
 
 -- what holds of a leaf and no merges, and of each tree and its list when it holds of the tree and the list after the best merge
 module _ (Q : Tree → List Merge → Type 0) (start : (x : ℕ) → Q (leaf x) []) (more : (m : Merge) (t : Tree) (P : List Merge) → Step m t → Q (collapse m t) P → Q t (m ∷ P)) where
@@ -154,8 +161,7 @@ behind-best : (m : Merge) (t : Tree) → Greatest (λ p. Ready p t) m → Behind
 unfolding Behind
 behind-best m t g p h e =
     let k = touch-clear m p (free-first m [] p e) in
-    let ne = k .1 in
-    omega (arith, g .above p (ready-before m p t (k .0) h))
+    ⊎-elim (λ q. absurd (k .1 (sym (ap (λ (x : Merge). x .1) q)))) (λ l. l) (g .others-below p (ready-before m p t (k .0) h))
 
 order-ahead : (t : Tree) → Distinct t → ((i : ℕ) (Q : List Merge) → Behind i Q t → Ahead i Q (order t)) × Greedy (order t)
 unfolding Ahead Greedy

@@ -1,5 +1,5 @@
 -- The parts of a tree: the trees of its nodes.
--- Main definition: Part. Main results: part-inside, part-size, part-distinct, part-filled, part-own, part-ready.
+-- Main definition: Part. Main results: part-inside, part-size, part-distinct, part-turned, part-filled, part-own, part-ready.
 use mathlib.Core.Path.{_≡_, refl, ap}
 use mathlib.Core.Logic.{_⊎_, inl, inr, ⊎-elim}
 use mathlib.Core.Bool.{true}
@@ -9,6 +9,7 @@ use Rattle.rules.specs.Building.{Merge}
 use Rattle.rules.specs.Tree.{Tree, leaf, node, Clusters, has, size, Distinct}
 use Rattle.rules.specs.Order.{ready}
 use Rattle.clades.specs.Leaves.{Inside, has-left, has-right, has-cases}
+use Rattle.clades.specs.Form.{Turned}
 use Rattle.growing.specs.Grown.{filled, graft}
 use Rattle.growing.specs.Ready.{Ready}
 
@@ -48,6 +49,13 @@ part-distinct s (leaf y) e D = rw e tt
 part-distinct s (node l r) (inl e) D = rw e D
 part-distinct s (node l r) (inr (inl k)) D = part-distinct s l k (D .1)
 part-distinct s (node l r) (inr (inr k)) D = part-distinct s r k (D .2)
+
+pub part-turned : (s t : Tree) → Part s t → Turned t → Turned s
+unfolding Part Turned
+part-turned s (leaf y) e T = rw e tt
+part-turned s (node l r) (inl e) T = rw e T
+part-turned s (node l r) (inr (inl k)) T = part-turned s l k (T .1)
+part-turned s (node l r) (inr (inr k)) T = part-turned s r k (T .2)
 
 pub part-filled : (c : Clusters) (s t : Tree) → Part s t → Part (filled c s) (filled c t)
 unfolding Part filled

@@ -1,5 +1,5 @@
 -- The pairs of a tree whose two clusters are complete, and the best of them.
--- Main definition: Ready. Main results: best-greatest, best-is, best-some, ready-rising, ready-has.
+-- Main definitions: Ready, Greatest. Main results: best-greatest, best-is, best-some, greatest-one, ready-unique, ready-rising, ready-has.
 use mathlib.Core.Path.{_≡_, refl, sym, ap, _∙_}
 use mathlib.Core.Logic.{_≢_, _⊎_, inl, inr, ⊎-elim}
 use mathlib.Core.Bool.{Bool, true, false, _||_, cond}
@@ -7,7 +7,7 @@ use mathlib.Core.Option.{Option, none, some, Option·none-ne-some, Option·some-
 use Prim.Native.Nat.{ℕ, _≤_, _<_, min, max}
 use native.Mathlib.Omega.{arith}
 use lib.Dec.{eqb, ltb}
-use borrow.Author.Tests.{ltb-true, ltb-false, eq-eqb}
+use borrow.Author.Tests.{ltb-true, ltb-false, eqb-true, eqb-false, eq-eqb}
 use Rattle.rules.specs.Building.{Merge}
 use Rattle.rules.specs.Tree.{Tree, leaf, node, has, Distinct}
 use Rattle.rules.specs.Order.{ready, greater, best}
@@ -20,31 +20,36 @@ unfolding ready
 Ready m (leaf x) = ⊥
 Ready m (node l r) = (ready l r ≡ some m) ⊎ (Ready m l ⊎ Ready m r)
 
--- m is one of those that satisfy a property, and none has a greater larger name
+-- "the one whose larger name is greatest" of those that satisfy a property: every other one has a smaller larger name
 pub record Greatest (Q : Merge → Type 0) (m : Merge) : Type 0 where
   pub is-one : Q m
-  pub above : (p : Merge) → Q p → p .1 ≤ m .1
+  pub others-below : (p : Merge) → Q p → (p ≡ m) ⊎ (p .1 < m .1)
 
--- none where no merge satisfies the property, else the greatest that does
+-- so there is one only
+pub greatest-one : (Q : Merge → Type 0) (m p : Merge) → Greatest Q m → Greatest Q p → p ≡ m
+greatest-one Q m p g h =
+    ⊎-elim (λ e. e) (λ l. ⊎-elim (λ e. sym e) (λ k. absurd (omega arith)) (h .others-below m (g .is-one))) (g .others-below p (h .is-one))
+
+-- none where no merge satisfies the property, else one that does and that no other exceeds
 Chosen : (Merge → Type 0) → Option Merge → Type 0
 Chosen Q none = (p : Merge) → Q p → ⊥
-Chosen Q (some m) = Greatest Q m
+Chosen Q (some m) = Q m × ((p : Merge) → Q p → p .1 ≤ m .1)
 
 chosen-one : (o : Option Merge) → Chosen (λ p. o ≡ some p) o
 unfolding Chosen
 chosen-one none = λ p e. Option·none-ne-some p e
-chosen-one (some m) = record { is-one = refl; above = λ p e. let q = Option·some-injective m p e in omega (arith, ap (λ (x : Merge). x .1) q) }
+chosen-one (some m) = (refl, λ p e. let q = Option·some-injective m p e in omega (arith, ap (λ (x : Merge). x .1) q))
 
 chosen-greater : (Q R : Merge → Type 0) (o p : Option Merge) → Chosen Q o → Chosen R p → Chosen (λ d. Q d ⊎ R d) (greater o p)
 unfolding Chosen greater
 chosen-greater Q R none none h k = λ d. ⊎-elim (h d) (k d)
-chosen-greater Q R none (some c) h k = record { is-one = inr (k .is-one); above = λ d. ⊎-elim (λ q. absurd (h d q)) (k .above d) }
-chosen-greater Q R (some b) none h k = record { is-one = inl (h .is-one); above = λ d. ⊎-elim (h .above d) (λ q. absurd (k d q)) }
+chosen-greater Q R none (some c) h k = (inr (k .0), λ d. ⊎-elim (λ q. absurd (h d q)) (k .1 d))
+chosen-greater Q R (some b) none h k = (inl (h .0), λ d. ⊎-elim (h .1 d) (λ q. absurd (k d q)))
 chosen-greater Q R (some b) (some c) h k = go (ltb (b .1) (c .1)) refl
   where
     go : (t : Bool) → ltb (b .1) (c .1) ≡ t → Chosen (λ d. Q d ⊎ R d) (cond t (some c) (some b))
-    go true q = record { is-one = inr (k .is-one); above = λ d. ⊎-elim (λ x. omega (arith, h .above d x, ltb-true (b .1) (c .1) q)) (k .above d) }
-    go false q = record { is-one = inl (h .is-one); above = λ d. ⊎-elim (h .above d) (λ x. omega (arith, k .above d x, ltb-false (b .1) (c .1) q)) }
+    go true q = (inr (k .0), λ d. ⊎-elim (λ x. omega (arith, h .1 d x, ltb-true (b .1) (c .1) q)) (k .1 d))
+    go false q = (inl (h .0), λ d. ⊎-elim (h .1 d) (λ x. omega (arith, k .1 d x, ltb-false (b .1) (c .1) q)))
 
 chosen : (t : Tree) → Chosen (λ p. Ready p t) (best t)
 unfolding Ready best
@@ -53,19 +58,14 @@ chosen (node l r) =
     chosen-greater (λ p. ready l r ≡ some p) (λ p. Ready p l ⊎ Ready p r) (ready l r) (greater (best l) (best r)) (chosen-one (ready l r))
     (chosen-greater (λ p. Ready p l) (λ p. Ready p r) (best l) (best r) (chosen l) (chosen r))
 
--- best is "of the pairs whose two clusters are complete, the one whose larger name is greatest"
-pub best-greatest : (t : Tree) (m : Merge) → best t ≡ some m → Greatest (λ p. Ready p t) m
-unfolding Chosen
-best-greatest t m e = rw e at (chosen t)
-
 -- a ready pair above all others is the best
-pub best-is : (t : Tree) (m : Merge) → Ready m t → ((p : Merge) → Ready p t → (p ≡ m) ⊎ (p .1 < m .1)) → best t ≡ some m
+pub best-is : (t : Tree) (m : Merge) → Greatest (λ p. Ready p t) m → best t ≡ some m
 unfolding Chosen
-best-is t m h k = go (best t) refl (chosen t)
+best-is t m g = go (best t) refl (chosen t)
   where
     go : (o : Option Merge) → best t ≡ o → Chosen (λ p. Ready p t) o → best t ≡ some m
-    go none e C = absurd (C m h)
-    go (some b) e C = e ∙ ap some (⊎-elim (λ p. p) (λ l. absurd (omega (arith, C .above m h))) (k b (C .is-one)))
+    go none e C = absurd (C m (g .is-one))
+    go (some b) e C = e ∙ ap some (⊎-elim (λ p. p) (λ l. absurd (omega (arith, C .1 m (g .is-one)))) (g .others-below b (C .0)))
 
 -- a tree is a leaf or has a ready pair
 ready-some : (t : Tree) → ((x : ℕ) × (t ≡ leaf x)) ⊎ ((m : Merge) × Ready m t)
@@ -133,3 +133,41 @@ ready-rising m (node l r) D (inl e) = let k = ready-sides m l r e in let p = k .
     differ (inr s) q = D .0 (m .0) (rw (s .0) (eq-eqb (m .1) (m .0) (sym q))) (rw (s .1) (eq-eqb (m .0) (m .0) refl))
 ready-rising m (node l r) D (inr (inl h)) = ready-rising m l (D .1) h
 ready-rising m (node l r) D (inr (inr h)) = ready-rising m r (D .2) h
+
+-- a part with a ready pair is not complete
+pub open-left : (m : Merge) (l r : Tree) → Ready m l → ready l r ≡ none
+unfolding Ready ready
+open-left m (leaf x) r h = absurd h
+open-left m (node a b) r h = refl
+
+pub open-right : (m : Merge) (l r : Tree) → Ready m r → ready l r ≡ none
+unfolding Ready ready
+open-right m (leaf x) (leaf y) h = absurd h
+open-right m (leaf x) (node a b) h = refl
+open-right m (node a b) r h = refl
+
+-- two ready pairs with the same larger name are one
+pub ready-unique : (p q : Merge) (t : Tree) → Distinct t → Ready p t → Ready q t → p .1 ≡ q .1 → p ≡ q
+unfolding Ready Distinct
+ready-unique p q (leaf x) D h k e = absurd h
+ready-unique p q (node l r) D (inl h) (inl k) e = Option·some-injective p q (sym h ∙ k)
+ready-unique p q (node l r) D (inl h) (inr (inl k)) e = absurd (Option·none-ne-some p (sym (open-left q l r k) ∙ h))
+ready-unique p q (node l r) D (inl h) (inr (inr k)) e = absurd (Option·none-ne-some p (sym (open-right q l r k) ∙ h))
+ready-unique p q (node l r) D (inr (inl h)) (inl k) e = absurd (Option·none-ne-some q (sym (open-left p l r h) ∙ k))
+ready-unique p q (node l r) D (inr (inl h)) (inr (inl k)) e = ready-unique p q l (D .1) h k e
+ready-unique p q (node l r) D (inr (inl h)) (inr (inr k)) e = absurd (D .0 (p .1) (ready-has p l h .1) (rw e (ready-has q r k .1)))
+ready-unique p q (node l r) D (inr (inr h)) (inl k) e = absurd (Option·none-ne-some q (sym (open-right p l r h) ∙ k))
+ready-unique p q (node l r) D (inr (inr h)) (inr (inl k)) e = absurd (D .0 (p .1) (rw e (ready-has q l k .1)) (ready-has p r h .1))
+ready-unique p q (node l r) D (inr (inr h)) (inr (inr k)) e = ready-unique p q r (D .2) h k e
+
+-- best is "of the pairs whose two clusters are complete, the one whose larger name is greatest"
+pub best-greatest : (t : Tree) (m : Merge) → Distinct t → best t ≡ some m → Greatest (λ p. Ready p t) m
+unfolding Chosen
+best-greatest t m D e = go (rw e at (chosen t))
+  where
+    go : Ready m t × ((p : Merge) → Ready p t → p .1 ≤ m .1) → Greatest (λ p. Ready p t) m
+    go C = record { is-one = C .0; others-below = λ p h. below p h (C .1 p h) (eqb (p .1) (m .1)) refl }
+      where
+        below : (p : Merge) → Ready p t → p .1 ≤ m .1 → (b : Bool) → eqb (p .1) (m .1) ≡ b → (p ≡ m) ⊎ (p .1 < m .1)
+        below p h l true q = inl (ready-unique p m t D h (C .0) (eqb-true (p .1) (m .1) q))
+        below p h l false q = inr (omega (arith, eqb-false (p .1) (m .1) q))

@@ -1,14 +1,10 @@
 -- One to one: valid vectors and rooted binary trees with leaves 0 to n-1, up to turning pairs round.
 -- Main results: same-clades-same-vector, every-tree, only-vector.
-use mathlib.Core.Bool.{Bool, true, false}
 use mathlib.Core.List.{List}
 use mathlib.Core.Logic.{_↔_}
-use mathlib.Core.Path.{_≡_, refl, sym, ap, _∙_, subst}
+use mathlib.Core.Path.{_≡_, sym, ap, _∙_, subst}
 use Prim.Native.Nat.{ℕ}
-use native.Mathlib.Omega.{arith}
-use lib.Dec.{ltb}
 use lib.ListN.{length}
-use borrow.Author.Tests.{ltb-true, ltb-false}
 use Rattle.rules.specs.Vector.{Valid}
 use Rattle.rules.specs.Tree.{Tree, leaf, treeOf, grown, LeavesBelow, SameClades}
 use Rattle.rules.specs.Order.{order, vectorOf, listed, entryAt}
@@ -16,31 +12,17 @@ use Rattle.basics.specs.Listed.{length-listed}
 use Rattle.clades.specs.Size.{size-below}
 use Rattle.clades.specs.Form.{form-clades}
 use Rattle.clades.specs.Leaves.{below-some}
-use Rattle.clades.specs.Same.{same-refl, same-sym, same-trans, same-leaves}
+use Rattle.clades.specs.Same.{same-refl, same-sym, same-trans}
 use Rattle.building.specs.InOrder.{InOrder, in-order-is-merges}
 use Rattle.building.specs.Entry.{merges-injective}
 use Rattle.growing.specs.OrderOf.{order-rising, order-good, order-greedy, order-under, order-once, grown-order}
-use Rattle.laws.specs.TreeOf.{tree-leaves, equal-trees-equal-order}
-
--- trees with the same leaves have the same number of them
-same-count : (m n : ℕ) → ((x : ℕ) → ltb x m ≡ ltb x n) → m ≡ n
-same-count m n h = go (ltb m n) (ltb n m) refl refl
-  where
-    go : (a b : Bool) → ltb m n ≡ a → ltb n m ≡ b → m ≡ n
-    go true b p q = absurd (omega (arith, ltb-true m m (h m ∙ p)))
-    go false true p q = absurd (omega (arith, ltb-true n n (sym (h n) ∙ q)))
-    go false false p q = omega (arith, ltb-false m n p, ltb-false n m q)
-
-same-length : (v w : List ℕ) → Valid v → Valid w → SameClades (treeOf v) (treeOf w) → length v ≡ length w
-same-length v w ok ok′ s =
-    same-count (length v) (length w)
-    (λ x. sym (tree-leaves v ok .all x) ∙ same-leaves (treeOf v) (treeOf w) s x ∙ tree-leaves w ok′ .all x)
+use Rattle.laws.specs.TreeOf.{equal-trees-equal-order}
 
 -- Two valid vectors, of any lengths, are equal exactly when their trees have the same clades.
 pub same-clades-same-vector : (v w : List ℕ) → Valid v → Valid w → (v ≡ w) ↔ SameClades (treeOf v) (treeOf w)
 same-clades-same-vector v w ok ok′ = (
   λ e. subst (λ (u : List ℕ). SameClades (treeOf v) (treeOf u)) e (same-refl (treeOf v)),
-  λ s. merges-injective v w ok ok′ (equal-trees-equal-order v w ok ok′ (same-length v w ok ok′ s) s),
+  λ s. merges-injective v w ok ok′ (equal-trees-equal-order v w ok ok′ s),
 )
 
 -- the order of a tree's merges is one that a vector has
@@ -77,7 +59,7 @@ listed-vector n t L =
 pub every-tree : (n : ℕ) (t : Tree) → LeavesBelow n t → VectorOf n t (vectorOf t)
 every-tree n t L = subst (VectorOf n t) (vector-listed n t L) (listed-vector n t L)
 
--- and of no other vector's tree
+-- and of no other vector's tree: so whatever `vectorOf` is made of, it is the one vector whose tree has the clades of t
 pub only-vector : (n : ℕ) (t : Tree) → LeavesBelow n t → (v : List ℕ) → Valid v → SameClades (treeOf v) t → v ≡ vectorOf t
 only-vector n t L v ok s =
     let e = every-tree n t L in

@@ -1,14 +1,19 @@
 -- The tree of a vector: its leaves, how it stands, and that the building rule merges its pairs in the order that fact 1 says.
 -- Main results: tree-leaves, tree-form, tree-turned, fact-one, equal-trees-equal-order, vector-again.
+use mathlib.Core.Bool.{Bool, true, false}
 use mathlib.Core.List.{List}
-use mathlib.Core.Path.{_≡_, sym, ap, ap₂, _∙_, subst}
+use mathlib.Core.Path.{_≡_, refl, sym, ap, ap₂, _∙_, subst}
 use Prim.Native.Nat.{ℕ}
+use native.Mathlib.Omega.{arith}
+use lib.Dec.{ltb}
 use lib.ListN.{length}
+use borrow.Author.Tests.{ltb-true, ltb-false}
 use Rattle.rules.specs.Vector.{Valid, entry}
 use Rattle.rules.specs.Building.{merges}
 use Rattle.rules.specs.Tree.{leaf, size, treeOf, grown, LeavesBelow, SameClades}
 use Rattle.rules.specs.Order.{order, vectorOf, listed, entryAt}
 use Rattle.clades.specs.Form.{form, Turned, form-turned}
+use Rattle.clades.specs.Same.{same-leaves}
 use Rattle.clades.specs.Size.{size-below}
 use Rattle.merging.specs.Insertion.{pairs, valid-bounded}
 use Rattle.merging.specs.Named.{rising}
@@ -43,11 +48,25 @@ tree-turned v ok = subst Turned (tree-form v ok) (form-turned (treeOf v) (tree-l
 pub fact-one : (v : List ℕ) → Valid v → merges v ≡ order (treeOf v)
 fact-one v ok = rw (tree-by-pairs v ok, merges-are-pairs v ok) (sym (pairs-order v (valid-bounded v ok)))
 
+-- trees with the same clades have the same number of leaves
+same-count : (m n : ℕ) → ((x : ℕ) → ltb x m ≡ ltb x n) → m ≡ n
+same-count m n h = go (ltb m n) (ltb n m) refl refl
+  where
+    go : (a b : Bool) → ltb m n ≡ a → ltb n m ≡ b → m ≡ n
+    go true b p q = absurd (omega (arith, ltb-true m m (h m ∙ p)))
+    go false true p q = absurd (omega (arith, ltb-true n n (sym (h n) ∙ q)))
+    go false false p q = omega (arith, ltb-false m n p, ltb-false n m q)
+
+same-length : (v w : List ℕ) → Valid v → Valid w → SameClades (treeOf v) (treeOf w) → length v ≡ length w
+same-length v w ok ok′ s =
+    same-count (length v) (length w)
+    (λ x. sym (tree-leaves v ok .all x) ∙ same-leaves (treeOf v) (treeOf w) s x ∙ tree-leaves w ok′ .all x)
+
 -- "depends on the tree alone": trees with the same clades have the same order of merges
-pub equal-trees-equal-order : (v w : List ℕ) → Valid v → Valid w → length v ≡ length w → SameClades (treeOf v) (treeOf w) → merges v ≡ merges w
-equal-trees-equal-order v w ok ok′ e s =
+pub equal-trees-equal-order : (v w : List ℕ) → Valid v → Valid w → SameClades (treeOf v) (treeOf w) → merges v ≡ merges w
+equal-trees-equal-order v w ok ok′ s =
     fact-one v ok
-    ∙ same-order (length v) (treeOf v) (treeOf w) (tree-leaves v ok) (rw e (tree-leaves w ok′)) s
+    ∙ same-order (length v) (treeOf v) (treeOf w) (tree-leaves v ok) (rw (same-length v w ok ok′ s) (tree-leaves w ok′)) s
     ∙ sym (fact-one w ok′)
 
 -- the vector of a valid vector's tree is that vector

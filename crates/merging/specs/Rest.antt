@@ -1,5 +1,5 @@
 -- Merges R that come after the merges Q.
--- Main results: rest-there, there-rest, good-rest, rising-rest, greedy-rest.
+-- Main results: rest-there, there-rest, good-rest, rising-rest, rising-first, greedy-rest.
 use mathlib.Core.Path.{_≡_, refl, sym, ap, _∙_}
 use mathlib.Core.Logic.{⊎-elim}
 use mathlib.Core.Bool.{true, true≢false}
@@ -43,6 +43,11 @@ pub rising-rest : (Q R : List Merge) → Rising (Q ++ R) → Rising R
 unfolding Rising
 rising-rest [] R g = g
 rising-rest (q ∷ Q) R g = rising-rest Q R (g .1)
+
+pub rising-first : (Q R : List Merge) → Rising (Q ++ R) → Rising Q
+unfolding Rising
+rising-first [] R g = tt
+rising-first (q ∷ Q) R g = (g .0, rising-first Q R (g .1))
 
 pub greedy-rest : (Q R : List Merge) → Greedy (Q ++ R) → Greedy R
 unfolding Greedy
