@@ -1,19 +1,22 @@
--- The marked samples of 01, proved of the definitions: one table, one statement.
--- Main results: samples-hold (the table), worked-hold (more of them), orders-hold (which refusal comes first), texts-read (by the
--- grammar), turned-back (every vector of up to five entries, from its tree, table and record), listing-sample.
-use mathlib.Core.Bool.{Bool, true, false, _&&_}
+-- The samples of 01, proved of the definitions.
+-- Main results: samples-hold (the marked ones: one table, one statement), refused-hold (01's refusals), worked-hold (worked by hand),
+-- orders-hold (which refusal comes first), figure-s1 (a run step by step), turned-back (every vector of up to five entries, from its tree,
+-- table and record), listing-sample.
+use mathlib.Core.Bool.{Bool, true, false, _&&_, cond}
 use mathlib.Core.List.{List, [], _∷_, _++_, map, flatMap}
+use mathlib.Core.Option.{Option, none, some}
 use mathlib.Core.Path.{_≡_, refl}
 use Prim.Native.Char.{code}
-use Prim.Native.Nat.{ℕ, zero, suc}
+use Prim.Native.Nat.{ℕ, zero, suc, _≤_, _<_}
 use Prim.Native.String.{String, [] as []ˢ, _∷_ as _∷ˢ_}
 use native.Mathlib.Bridge.{le-by-compare, IsLe}
+use native.Mathlib.Omega.{arith}
 use lib.Dec.{eqb}
 use lib.ListN.{length, replicate}
-use Rattle.rules.specs.Building.{below}
-use Rattle.rules.specs.Vector.{bound}
+use Rattle.rules.specs.Building.{Merge, State, below, start, next, merge, merges}
+use Rattle.rules.specs.Vector.{entry, bound, Valid}
 use Rattle.rules.specs.Tree.{leaf, treeOf}
-use Rattle.rules.specs.Order.{vectorOf}
+use Rattle.rules.specs.Order.{listed, vectorOf}
 use Rattle.rules.specs.Table.{tableOf}
 use Rattle.rules.specs.Newick.{pairText, allDigits, valueFrom, nought, number, Node, label, pair, text}
 use Rattle.rules.specs.Record.{recordOf}
@@ -34,140 +37,209 @@ abbrev bytes : String → List ℕ
 bytes []ˢ = []
 bytes (c ∷ˢ s) = code c ∷ bytes s
 
--- what goes into one buffer
-abbrev part : {W : Type 0} → (W → List ℕ) → Making W → Made
-part f (made x) = made (f x)
-part f (refuses k place) = refuses k place
+-- 01, "Samples to prove and to run", the marked ones. A line of the table: a vector, its text, and its record where 01 gives one.
+abbrev Marked : Type 0
+Marked = List ℕ × String × Option (List ℕ)
 
--- A line of the samples: what the definitions make of an input, and what 01 says that it gives.
-abbrev Line : Type 0
-Line = Made × Made
+abbrev marked : List Marked
+marked =
+    (0 ∷ [], "0;", some (0x00 ∷ 0x20 ∷ []))
+    ∷ (0 ∷ 0 ∷ [], "(0,1);", some (0x00 ∷ 0x40 ∷ []))
+    ∷ (0 ∷ 0 ∷ 2 ∷ [], "((0,1),2);", some (0x00 ∷ 0x70 ∷ []))
+    ∷ (0 ∷ 0 ∷ 1 ∷ 2 ∷ [], "(0,(1,(2,3)));", none)
+    ∷ (0 ∷ 0 ∷ 1 ∷ 4 ∷ [], "((0,(1,2)),3);", some (0x00 ∷ 0x8C ∷ []))
+    ∷ (0 ∷ 0 ∷ 2 ∷ 1 ∷ [], "((0,(1,3)),2);", some (0x00 ∷ 0x91 ∷ []))
+    ∷ (0 ∷ 0 ∷ 1 ∷ 3 ∷ [], "(0,((1,2),3));", none)
+    ∷ (0 ∷ 0 ∷ 2 ∷ 2 ∷ [], "((0,1),(2,3));", none)
+    ∷ []
 
--- 01, "Samples to prove and to run": the marked ones, each turned back too, the rows in the sender's order, and what is refused
--- (texts that are refused are not here: nothing computes there, see Newick.BreaksAt).
-abbrev samples : List Line
-samples =
-    (toText (0 ∷ []), made (bytes "0;"))
-    ∷ (toText (0 ∷ 0 ∷ []), made (bytes "(0,1);"))
-    ∷ (toText (0 ∷ 0 ∷ 2 ∷ []), made (bytes "((0,1),2);"))
-    ∷ (toText (0 ∷ 0 ∷ 1 ∷ 2 ∷ []), made (bytes "(0,(1,(2,3)));"))
-    ∷ (toText (0 ∷ 0 ∷ 1 ∷ 4 ∷ []), made (bytes "((0,(1,2)),3);"))
-    ∷ (toText (0 ∷ 0 ∷ 2 ∷ 1 ∷ []), made (bytes "((0,(1,3)),2);"))
-    ∷ (toText (0 ∷ 0 ∷ 1 ∷ 3 ∷ []), made (bytes "(0,((1,2),3));"))
-    ∷ (toText (0 ∷ 0 ∷ 2 ∷ 2 ∷ []), made (bytes "((0,1),(2,3));"))
-    ∷ (pack (0 ∷ []), made (0x00 ∷ 0x20 ∷ []))
-    ∷ (pack (0 ∷ 0 ∷ []), made (0x00 ∷ 0x40 ∷ []))
-    ∷ (pack (0 ∷ 0 ∷ 2 ∷ []), made (0x00 ∷ 0x70 ∷ []))
-    ∷ (pack (0 ∷ 0 ∷ 1 ∷ 4 ∷ []), made (0x00 ∷ 0x8C ∷ []))
-    ∷ (pack (0 ∷ 0 ∷ 2 ∷ 1 ∷ []), made (0x00 ∷ 0x91 ∷ []))
-    ∷ (unpack (0x00 ∷ 0x20 ∷ []), made (0 ∷ []))
-    ∷ (unpack (0x00 ∷ 0x40 ∷ []), made (0 ∷ 0 ∷ []))
-    ∷ (unpack (0x00 ∷ 0x70 ∷ []), made (0 ∷ 0 ∷ 2 ∷ []))
-    ∷ (unpack (0x00 ∷ 0x8C ∷ []), made (0 ∷ 0 ∷ 1 ∷ 4 ∷ []))
-    ∷ (unpack (0x00 ∷ 0x91 ∷ []), made (0 ∷ 0 ∷ 2 ∷ 1 ∷ []))
-    ∷ (toTable (0 ∷ 0 ∷ 1 ∷ 4 ∷ []), made (1 ∷ 2 ∷ 4 ∷ 0 ∷ 4 ∷ 5 ∷ 5 ∷ 3 ∷ 6 ∷ []))
+-- a vector packs to the record and the record unpacks to the vector, where 01 gives one
+data Packs (v : List ℕ) : Option (List ℕ) → Type 0 where
+  no-record : Packs v none
+  packs : {record′ : List ℕ} → pack v ≡ made record′ → unpack record′ ≡ made v → Packs v (some record′)
+
+-- what is said of each line: the vector makes the text, the text makes the vector, and so for the record
+data Each : List Marked → Type 0 where
+  end : Each []
+  line : {v : List ℕ} {s : String} {record′ : Option (List ℕ)} {rest : List Marked}
+      → toText v ≡ made (bytes s) → FromText (bytes s) (made v) → Packs v record′ → Each rest → Each ((v, s, record′) ∷ rest)
+
+-- What a call makes of an input, and what 01 says that it gives; W is what it writes.
+abbrev Line : Type 0 → Type 0
+Line W = Making W × Making W
+
+abbrev Hold : {W : Type 0} → List (Line W) → Type 0
+Hold {W} ls = map (λ (l : Line W). l .0) ls ≡ map (λ (l : Line W). l .1) ls
+
+-- the marked tables and relabelling; the table is read back too, and the rows are in the sender's order
+abbrev tables : List (Line (List ℕ))
+tables =
+    (toTable (0 ∷ 0 ∷ 1 ∷ 4 ∷ []), made (1 ∷ 2 ∷ 4 ∷ 0 ∷ 4 ∷ 5 ∷ 5 ∷ 3 ∷ 6 ∷ []))
     ∷ (fromTable 4 (1 ∷ 2 ∷ 4 ∷ 0 ∷ 4 ∷ 5 ∷ 5 ∷ 3 ∷ 6 ∷ []), made (0 ∷ 0 ∷ 1 ∷ 4 ∷ []))
     ∷ (fromTable 4 (1 ∷ 0 ∷ 4 ∷ 3 ∷ 2 ∷ 5 ∷ 5 ∷ 4 ∷ 6 ∷ []), made (0 ∷ 0 ∷ 2 ∷ 2 ∷ []))
     ∷ (toTable (0 ∷ 0 ∷ 2 ∷ 2 ∷ []), made (2 ∷ 3 ∷ 4 ∷ 0 ∷ 1 ∷ 5 ∷ 5 ∷ 4 ∷ 6 ∷ []))
-    ∷ (part (λ x. x .0) (shuffle (0 ∷ 0 ∷ 2 ∷ 1 ∷ [])), made (0 ∷ 2 ∷ 1 ∷ 3 ∷ []))
-    ∷ (part (λ x. x .1) (shuffle (0 ∷ 0 ∷ 2 ∷ 1 ∷ [])), made (0 ∷ 0 ∷ 0 ∷ 2 ∷ []))
     ∷ (relabel (0 ∷ 0 ∷ 1 ∷ 4 ∷ []) (1 ∷ 0 ∷ 2 ∷ 3 ∷ []), made (0 ∷ 0 ∷ 0 ∷ 4 ∷ []))
-    ∷ (part (λ x. []) (check (0 ∷ 1 ∷ [])), refuses 4 1)
-    ∷ (part (λ x. []) (check (0 ∷ 0 ∷ 3 ∷ [])), refuses 4 2)
-    ∷ (part (λ x. []) (check (0 ∷ 0 ∷ 2 ∷ [])), made [])
-    ∷ (part (λ x. []) (check []), refuses 1 0)
-    ∷ (unpack (0x00 ∷ 0x41 ∷ []), refuses 10 1)
     ∷ []
 
-samples-hold : map (λ l. l .0) samples ≡ map (λ l. l .1) samples
-unfolding check toTable fromTable toText pack unpack shuffle relabel
-samples-hold = refl
+-- the marked shuffle: new and the vector
+abbrev shuffles : List (Line (List ℕ × List ℕ))
+shuffles = (shuffle (0 ∷ 0 ∷ 2 ∷ 1 ∷ []), made (0 ∷ 2 ∷ 1 ∷ 3 ∷ [], 0 ∷ 0 ∷ 0 ∷ 2 ∷ [])) ∷ []
+
+-- the labels of the samples, as nodes
+node-0 : {d : ℕ} → Node d (48 ∷ []) (leaf 0)
+node-0 = label nought
+
+digit : {d : ℕ} (c : ℕ) → allDigits (c ∷ []) ≡ true → eqb c 48 ≡ false → Node d (c ∷ []) (leaf (valueFrom 0 (c ∷ [])))
+unfolding IsLe
+digit c h k = label (number c [] h k (le-by-compare 0 3 tt))
+
+node-1 : {d : ℕ} → Node d (49 ∷ []) (leaf 1)
+unfolding allDigits valueFrom
+node-1 = digit 49 refl refl
+
+node-2 : {d : ℕ} → Node d (50 ∷ []) (leaf 2)
+unfolding allDigits valueFrom
+node-2 = digit 50 refl refl
+
+node-3 : {d : ℕ} → Node d (51 ∷ []) (leaf 3)
+unfolding allDigits valueFrom
+node-3 = digit 51 refl refl
+
+-- the marked samples, one statement
+samples-hold : Each marked × Hold tables × Hold shuffles
+unfolding toText fromLabels pack unpack toTable fromTable shuffle relabel pairText IsLe
+samples-hold = (
+  line refl (reads-as _ (le-by-compare 2 6056 tt) (text node-0)) (packs refl refl)
+      (line refl (reads-as _ (le-by-compare 6 6056 tt) (text (pair node-0 node-1))) (packs refl refl)
+      (line refl (reads-as _ (le-by-compare 10 6056 tt) (text (pair (pair node-0 node-1) node-2))) (packs refl refl)
+      (line refl (reads-as _ (le-by-compare 14 6056 tt) (text (pair node-0 (pair node-1 (pair node-2 node-3))))) no-record
+      (line refl (reads-as _ (le-by-compare 14 6056 tt) (text (pair (pair node-0 (pair node-1 node-2)) node-3))) (packs refl refl)
+      (line refl (reads-as _ (le-by-compare 14 6056 tt) (text (pair (pair node-0 (pair node-1 node-3)) node-2))) (packs refl refl)
+      (line refl (reads-as _ (le-by-compare 14 6056 tt) (text (pair node-0 (pair (pair node-1 node-2) node-3)))) no-record
+      (line refl (reads-as _ (le-by-compare 14 6056 tt) (text (pair (pair node-0 node-1) (pair node-2 node-3)))) no-record
+      end))))))),
+  refl,
+  refl,
+)
+
+-- a vector of one entry is valid, the empty one is not, nor one with an entry above its bound
+validity : Valid (0 ∷ []) × (Valid [] → ⊥) × (Valid (0 ∷ 1 ∷ []) → ⊥)
+unfolding entry bound IsLe
+validity = (
+  record { some-leaf = le-by-compare 1 1 tt; bounded = first },
+  λ ok. omega (arith, ok .some-leaf),
+  λ ok. omega (arith, ok .bounded 1 (omega arith)),
+)
+  where
+    first : (i : ℕ) → i < 1 → entry (0 ∷ []) i ≤ bound i
+    first zero h = le-by-compare 0 0 tt
+    first (suc i) h = absurd (omega arith)
+
+-- 01, "Refused", and what just passes
+abbrev checks : List (Line (Unit {0}))
+checks =
+    (check (0 ∷ 1 ∷ []), refuses 4 1)
+    ∷ (check (0 ∷ 0 ∷ 3 ∷ []), refuses 4 2)
+    ∷ (check (0 ∷ 0 ∷ 2 ∷ []), made tt)
+    ∷ (check [], refuses 1 0)
+    ∷ (check (replicate 1025 0), refuses 1 0)
+    ∷ (check (replicate 1024 0), made tt)
+    ∷ []
+
+-- of the refused texts those that the grammar takes: where a text breaks it nothing computes (Newick.BreaksAt)
+refused-hold : Hold checks × (unpack (0x00 ∷ 0x41 ∷ []) ≡ refuses 10 1) × FromText (bytes "(0,0);") (refuses 9 3) × FromText (bytes "5;") (refuses 9 0)
+unfolding check unpack fromLabels pairText IsLe allDigits valueFrom
+refused-hold = (
+  refl,
+  refl,
+  reads-as _ (le-by-compare 6 6056 tt) (text (pair node-0 node-0)),
+  reads-as _ (le-by-compare 2 6056 tt) (text (digit 53 refl refl)),
+)
 
 -- Worked by hand from 01's words: a queue that is no stack, and permutations that are not their own inverses.
-abbrev worked : List Line
+worked-shuffle : shuffle (0 ∷ 0 ∷ 2 ∷ 4 ∷ 3 ∷ []) ≡ made (0 ∷ 4 ∷ 2 ∷ 1 ∷ 3 ∷ [], 0 ∷ 0 ∷ 0 ∷ 1 ∷ 0 ∷ [])
+unfolding shuffle
+worked-shuffle = refl
+
+abbrev worked : List (Line (List ℕ))
 worked =
     (toText (0 ∷ 0 ∷ 2 ∷ 4 ∷ 3 ∷ []), made (bytes "(((0,1),2),(3,4));"))
-    ∷ (part (λ x. x .0) (shuffle (0 ∷ 0 ∷ 2 ∷ 4 ∷ 3 ∷ [])), made (0 ∷ 4 ∷ 2 ∷ 1 ∷ 3 ∷ []))
-    ∷ (part (λ x. x .1) (shuffle (0 ∷ 0 ∷ 2 ∷ 4 ∷ 3 ∷ [])), made (0 ∷ 0 ∷ 0 ∷ 1 ∷ 0 ∷ []))
     ∷ (relabel (0 ∷ 0 ∷ 2 ∷ []) (1 ∷ 2 ∷ 0 ∷ []), made (0 ∷ 0 ∷ 1 ∷ []))
     ∷ []
 
-worked-hold : map (λ l. l .0) worked ≡ map (λ l. l .1) worked
-unfolding toText shuffle relabel
+worked-hold : Hold worked
+unfolding toText relabel
 worked-hold = refl
 
--- Where two refusals would do, 01's "Order" decides.
-abbrev orders : List Line
+-- Where two refusals would do, 01's "Order" decides; and each way in which one number is refused.
+abbrev orders : List (Line (List ℕ))
 orders =
-    (part (λ x. []) (check (replicate 1025 1)), refuses 1 0)
+    (pack (replicate 1025 1), refuses 1 0)
     ∷ (relabel (0 ∷ 1 ∷ []) [], refuses 4 1)
     ∷ (relabel (0 ∷ 0 ∷ []) (2 ∷ []), refuses 2 2)
     ∷ (relabel (0 ∷ 0 ∷ []) (0 ∷ 0 ∷ []), refuses 11 1)
+    ∷ (relabel (0 ∷ 0 ∷ []) (1 ∷ 2 ∷ []), refuses 11 1)
     ∷ (fromTable 0 (0 ∷ []), refuses 1 0)
     ∷ (fromTable 4294967295 [], refuses 1 0)
     ∷ (fromTable 2 (5 ∷ 5 ∷ 5 ∷ 5 ∷ []), refuses 2 3)
     ∷ (fromTable 2 (5 ∷ 5 ∷ 5 ∷ []), refuses 5 0)
+    ∷ (fromTable 2 (0 ∷ 1 ∷ 1 ∷ []), refuses 5 0)
     ∷ (fromTable 2 (65535 ∷ 65535 ∷ 2 ∷ []), refuses 6 0)
+    ∷ (fromTable 2 (2 ∷ 0 ∷ 2 ∷ []), refuses 6 0)
+    ∷ (fromTable 2 (0 ∷ 2 ∷ 2 ∷ []), refuses 6 0)
     ∷ (fromTable 2 (1 ∷ 1 ∷ 2 ∷ []), refuses 7 0)
     ∷ (fromTable 3 (0 ∷ 0 ∷ 3 ∷ 0 ∷ 9 ∷ 9 ∷ []), refuses 7 0)
     ∷ (fromTable 3 (0 ∷ 1 ∷ 3 ∷ 0 ∷ 2 ∷ 4 ∷ []), refuses 7 1)
+    ∷ (fromTable 3 (1 ∷ 2 ∷ 3 ∷ 0 ∷ 1 ∷ 4 ∷ []), refuses 7 1)
+    ∷ (fromTable 3 (0 ∷ 1 ∷ 3 ∷ 1 ∷ 2 ∷ 4 ∷ []), refuses 7 1)
+    ∷ (fromTable 4 (0 ∷ 1 ∷ 4 ∷ 2 ∷ 3 ∷ 5 ∷ 0 ∷ 5 ∷ 6 ∷ []), refuses 7 2)
     ∷ (unpack (0x00 ∷ []), refuses 2 2)
     ∷ (unpack (0x00 ∷ 0x00 ∷ 0x00 ∷ []), refuses 1 0)
     ∷ (unpack (0x00 ∷ 0x7F ∷ 0x00 ∷ []), refuses 2 2)
     ∷ (unpack (0x00 ∷ 0x7F ∷ []), refuses 4 2)
     ∷ []
 
-orders-hold : map (λ l. l .0) orders ≡ map (λ l. l .1) orders
-unfolding check fromTable unpack relabel
+orders-hold : Hold orders
+unfolding pack fromTable unpack relabel
 orders-hold = refl
 
--- the labels of the samples, as nodes
-node-0 : {d : ℕ} → Node d (48 ∷ []) (leaf 0)
-node-0 = label nought
+-- Figure S1 of document 001, the run of 0,0,2,3: before each step the names of the clusters (the figure's P), the labels that leaves give
+-- the clusters named below them (its L: a row for each leaf that still names a cluster, and the last row, of all four), the next merge.
+abbrev View : Type 0
+View = List ℕ × List (List ℕ) × Option Merge
 
-node-1 : {d : ℕ} → Node d (49 ∷ []) (leaf 1)
-unfolding allDigits valueFrom IsLe
-node-1 = label (number 49 [] refl refl (le-by-compare 0 3 tt))
-
-node-2 : {d : ℕ} → Node d (50 ∷ []) (leaf 2)
-unfolding allDigits valueFrom IsLe
-node-2 = label (number 50 [] refl refl (le-by-compare 0 3 tt))
-
-node-3 : {d : ℕ} → Node d (51 ∷ []) (leaf 3)
-unfolding allDigits valueFrom IsLe
-node-3 = label (number 51 [] refl refl (le-by-compare 0 3 tt))
-
--- Texts and what they give: the marked texts give their vectors back, and a label used before is refused.
-data AllRead : List (String × Made) → Type 0 where
-  end : AllRead []
-  line : {s : String} {m : Made} {rest : List (String × Made)} → FromText (bytes s) m → AllRead rest → AllRead ((s, m) ∷ rest)
-
-abbrev texts : List (String × Made)
-texts =
-    ("0;", made (0 ∷ []))
-    ∷ ("(0,1);", made (0 ∷ 0 ∷ []))
-    ∷ ("((0,1),2);", made (0 ∷ 0 ∷ 2 ∷ []))
-    ∷ ("(0,(1,(2,3)));", made (0 ∷ 0 ∷ 1 ∷ 2 ∷ []))
-    ∷ ("((0,(1,2)),3);", made (0 ∷ 0 ∷ 1 ∷ 4 ∷ []))
-    ∷ ("((0,(1,3)),2);", made (0 ∷ 0 ∷ 2 ∷ 1 ∷ []))
-    ∷ ("(0,((1,2),3));", made (0 ∷ 0 ∷ 1 ∷ 3 ∷ []))
-    ∷ ("((0,1),(2,3));", made (0 ∷ 0 ∷ 2 ∷ 2 ∷ []))
-    ∷ ("(0,0);", refuses 9 3)
+abbrev run : List View
+run =
+    (0 ∷ 1 ∷ 2 ∷ 3 ∷ [], [] ∷ (0 ∷ []) ∷ (0 ∷ 1 ∷ []) ∷ (0 ∷ 1 ∷ 2 ∷ []) ∷ (0 ∷ 1 ∷ 2 ∷ 3 ∷ []) ∷ [], some (0, 1))
+    ∷ (0 ∷ 2 ∷ 3 ∷ [], [] ∷ (2 ∷ 1 ∷ []) ∷ (3 ∷ 1 ∷ 2 ∷ []) ∷ (4 ∷ 1 ∷ 2 ∷ 3 ∷ []) ∷ [], some (0, 3))
+    ∷ (0 ∷ 2 ∷ [], [] ∷ (2 ∷ 1 ∷ []) ∷ (5 ∷ 1 ∷ 2 ∷ 3 ∷ []) ∷ [], some (0, 2))
+    ∷ (0 ∷ [], [] ∷ (6 ∷ 1 ∷ 2 ∷ 3 ∷ []) ∷ [], none)
     ∷ []
 
-texts-read : AllRead texts
-unfolding fromLabels pairText IsLe
-texts-read =
-    line (reads-as _ (le-by-compare 2 6056 tt) (text node-0))
-    (line (reads-as _ (le-by-compare 6 6056 tt) (text (pair node-0 node-1)))
-    (line (reads-as _ (le-by-compare 10 6056 tt) (text (pair (pair node-0 node-1) node-2)))
-    (line (reads-as _ (le-by-compare 14 6056 tt) (text (pair node-0 (pair node-1 (pair node-2 node-3)))))
-    (line (reads-as _ (le-by-compare 14 6056 tt) (text (pair (pair node-0 (pair node-1 node-2)) node-3)))
-    (line (reads-as _ (le-by-compare 14 6056 tt) (text (pair (pair node-0 (pair node-1 node-3)) node-2)))
-    (line (reads-as _ (le-by-compare 14 6056 tt) (text (pair node-0 (pair (pair node-1 node-2) node-3))))
-    (line (reads-as _ (le-by-compare 14 6056 tt) (text (pair (pair node-0 node-1) (pair node-2 node-3))))
-    (line (reads-as _ (le-by-compare 6 6056 tt) (text (pair node-0 node-0)))
-    end))))))))
+-- the names below n
+named : State → ℕ → List ℕ
+named s zero = []
+named s (suc n) = named s n ++ cond (s .names n) (n ∷ []) []
+
+view : List ℕ → State → View
+unfolding named listed next
+view v s =
+    (named s (suc (length v)), map (λ j. listed j (s .label j)) (named s (suc (length v)) ++ (length v ∷ [])), next (entry v) s (length v))
+
+-- a state, and the states after each of some merges
+states : List Merge → State → List State
+unfolding merge
+states [] s = s ∷ []
+states (m ∷ ms) s = s ∷ states ms (merge s m)
+
+figure-s1 : map (view (0 ∷ 0 ∷ 2 ∷ 3 ∷ [])) (states (merges (0 ∷ 0 ∷ 2 ∷ 3 ∷ [])) (start 4)) ≡ run
+unfolding view states merges start
+figure-s1 = refl
+
+-- the pairs of the figure, as numbers of nodes: (0, 1), (4, 3), (5, 2)
+figure-s1-table : toTable (0 ∷ 0 ∷ 2 ∷ 3 ∷ []) ≡ made (0 ∷ 1 ∷ 4 ∷ 4 ∷ 3 ∷ 5 ∷ 5 ∷ 2 ∷ 6 ∷ [])
+unfolding toTable
+figure-s1-table = refl
 
 -- the vectors of n entries
 vectors : ℕ → List (List ℕ)
