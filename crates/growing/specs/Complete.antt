@@ -1,6 +1,6 @@
 -- Fact 1 of 01 over the clusters that the merges build: after each number of merges, of the pairs of the whole tree whose two clusters
 -- are there, the one whose larger name is greatest is merged next.
--- Main definition: Complete. Main result: next-complete.
+-- Main definition: Complete. Main results: complete-rising, next-complete.
 use mathlib.Core.Path.{_≡_, refl, sym, ap, _∙_}
 use mathlib.Core.Logic.{_⊎_}
 use mathlib.Core.Bool.{true}
@@ -29,6 +29,14 @@ pub record Complete (Q P : List Merge) (p : Merge) : Type 0 where
   pub pair : Part (node (grown Q leaf (p .0)) (grown Q leaf (p .1))) (grown P leaf 0)
   pub smaller : times (p .0) Q ≡ 0
   pub larger : times (p .1) Q ≡ 0
+
+-- a complete pair has its smaller name first
+pub complete-rising : (Q P : List Merge) → Rising Q → Rising P → Good P → (p : Merge) → Complete Q P p → p .0 < p .1
+unfolding Turned
+complete-rising Q P f g G p K =
+    let T : Turned (grown P leaf 0) = rw (form-grown P g) at (form-turned (grown P leaf 0) (distinct-grown P g G)) in
+    let l = part-turned (node (grown Q leaf (p .0)) (grown Q leaf (p .1))) (grown P leaf 0) (K .pair) T .0 in
+    omega (arith, least-grown Q f (p .0), least-grown Q f (p .1))
 
 module _ (Q : List Merge) (m : Merge) (R : List Merge) (g : Rising (Q ++ (m ∷ R))) (G : Good (Q ++ (m ∷ R))) (H : Greedy (Q ++ (m ∷ R))) where
   whole : grown (Q ++ (m ∷ R)) leaf 0 ≡ filled (grown Q leaf) (grown (m ∷ R) leaf 0)
@@ -61,17 +69,8 @@ module _ (Q : List Merge) (m : Merge) (R : List Merge) (g : Rising (Q ++ (m ∷ 
       own : Good (m ∷ R) → Part (node (leaf (m .0)) (leaf (m .1))) (grown (m ∷ R) leaf 0)
       own k = rw (grown-graft m R 0) (part-own m (grown R leaf 0) (unfold Good in has-grown R (k .2) (m .0) ∙ k .0))
 
-  -- a complete pair has its smaller name first
-  complete-rising : (p : Merge) → Complete Q (Q ++ (m ∷ R)) p → p .0 < p .1
-  unfolding Turned
-  complete-rising p K =
-      let T : Turned (grown (Q ++ (m ∷ R)) leaf 0) = rw (form-grown (Q ++ (m ∷ R)) g) at (form-turned (grown (Q ++ (m ∷ R)) leaf 0) (distinct-grown (Q ++ (m ∷ R)) g G)) in
-      let l = part-turned (node (grown Q leaf (p .0)) (grown Q leaf (p .1))) (grown (Q ++ (m ∷ R)) leaf 0) (K .pair) T .0 in
-      let r = rising-first Q (m ∷ R) g in
-      omega (arith, least-grown Q r (p .0), least-grown Q r (p .1))
-
   next-after : Greatest (Complete Q (Q ++ (m ∷ R))) m
-  next-after = record { is-one = own-complete; others-below = λ p K. below p (complete-rising p K) (complete-ready p K) }
+  next-after = record { is-one = own-complete; others-below = λ p K. below p (complete-rising Q (Q ++ (m ∷ R)) (rising-first Q (m ∷ R) g) g G p K) (complete-ready p K) }
     where
       below : (p : Merge) → p .0 < p .1 → Ready (min (p .0) (p .1), max (p .0) (p .1)) (grown (m ∷ R) leaf 0) → (p ≡ m) ⊎ (p .1 < m .1)
       below p l h =

@@ -9,8 +9,8 @@
 --     building Going.goes-on, one-left (it is named 0, and no other number names one), stops.
 -- "The order of merges depends on the tree alone: of the pairs whose two clusters are complete, the one whose larger name is greatest
 -- comes first."
---     TreeOf.fact-one, equal-trees-equal-order; step by step: FactOne.fact-one-at-each-step; "the one": fact-one-of-one-pair. The same of
---     the order of any tree: growing Fact1.fact-1.
+--     TreeOf.fact-one, equal-trees-equal-order; step by step: FactOne.fact-one-at-each-step; "the one": fact-one-of-one-pair; "larger
+--     name": complete-larger-name. The same of the order of any tree: growing Fact1.fact-1.
 -- "if s merges of two clusters both named below i came before i merged with cluster a, then v(i) = a when s = 0, else v(i) = i-1+s"
 --     FactTwo.fact-two-in-words; building Entry.fact-two.
 -- "lead to the same vector exactly when they have the same clades"
