@@ -11,9 +11,13 @@
  * The library is x86-64 code with no state and no heap. Every call returns, for every input. Calls may run at the same
  * time on buffers of their own.
  *
- * Slices. A list is a pointer and its number of elements. It is the caller's, is only lent for the call, and no call reads
- * or writes beyond it. Of an empty list the pointer may be anything that is not null. Lists that are lent to one call must
- * not overlap.
+ * What the caller owes. A list is a pointer and its number of elements. It is the caller's, is only lent for the call, and
+ * no call reads or writes beyond it. Every pointer is aligned for its elements (uint16_t: 2 bytes, uint64_t: 8) and is not
+ * null; of an empty list it may be anything else. `answer` is not null, has room for two numbers, and overlaps no list. No
+ * two lists that are lent to one call overlap, inputs and outputs alike.
+ *
+ * Stack. A call takes what the table says at its deepest, as measured over trees of 1,024 leaves (bench/run --stack): have
+ * 128 KiB free. Nothing in the library looks whether there is enough.
  *
  * Answers. The last parameter points to two numbers that every call sets:
  *
