@@ -15,10 +15,10 @@ use lib.Dec.{eqb}
 use lib.ListN.{length, replicate}
 use Rattle.rules.specs.Building.{Merge, State, below, start, next, merge, merges}
 use Rattle.rules.specs.Vector.{entry, bound, Valid}
-use Rattle.rules.specs.Tree.{leaf, treeOf}
+use Rattle.rules.specs.Tree.{Tree, leaf, node, treeOf}
 use Rattle.rules.specs.Order.{listed, vectorOf}
 use Rattle.rules.specs.Table.{tableOf}
-use Rattle.rules.specs.Newick.{pairText, allDigits, valueFrom, nought, number, Node, label, pair, text}
+use Rattle.rules.specs.Newick.{pairText, textOf, allDigits, valueFrom, nought, number, Node, label, pair, text}
 use Rattle.rules.specs.Record.{recordOf}
 use Rattle.rules.specs.Answer.{Making, Made, made, refuses}
 use Rattle.rules.specs.Listing.{listing}
@@ -26,7 +26,7 @@ use Rattle.rules.specs.CallCheck.{check}
 use Rattle.rules.specs.CallToTable.{toTable}
 use Rattle.rules.specs.CallFromTable.{fromTable}
 use Rattle.rules.specs.CallToNewick.{toText}
-use Rattle.rules.specs.CallFromNewick.{fromLabels, FromText, reads-as}
+use Rattle.rules.specs.CallFromNewick.{fromLabels, FromText, too-long, reads-as}
 use Rattle.rules.specs.CallPack.{pack}
 use Rattle.rules.specs.CallUnpack.{unpack}
 use Rattle.rules.specs.CallShuffle.{shuffle}
@@ -156,10 +156,13 @@ refused-hold = (
   reads-as _ (le-by-compare 2 6056 tt) (text (digit 53 refl refl)),
 )
 
--- Worked by hand from 01's words: a queue that is no stack, and permutations that are not their own inverses.
-worked-shuffle : shuffle (0 ∷ 0 ∷ 2 ∷ 4 ∷ 3 ∷ []) ≡ made (0 ∷ 4 ∷ 2 ∷ 1 ∷ 3 ∷ [], 0 ∷ 0 ∷ 0 ∷ 1 ∷ 0 ∷ [])
-unfolding shuffle
-worked-shuffle = refl
+-- Worked by hand from 01's words: every entry at its bound, so that each leaf is beside all the smaller ones, and a label of two digits;
+-- a queue that is no stack; a permutation that is not its own inverse.
+abbrev bounds : List Marked
+bounds = (0 ∷ 0 ∷ 2 ∷ 4 ∷ 6 ∷ 8 ∷ 10 ∷ 12 ∷ 14 ∷ 16 ∷ 18 ∷ [], "((((((((((0,1),2),3),4),5),6),7),8),9),10);", some (0x01 ∷ 0x74 ∷ 0xD1 ∷ 0x59 ∷ 0xD0 ∷ 0x90 ∷ [])) ∷ []
+
+abbrev queued : List (Line (List ℕ × List ℕ))
+queued = (shuffle (0 ∷ 0 ∷ 2 ∷ 4 ∷ 3 ∷ []), made (0 ∷ 4 ∷ 2 ∷ 1 ∷ 3 ∷ [], 0 ∷ 0 ∷ 0 ∷ 1 ∷ 0 ∷ [])) ∷ []
 
 abbrev worked : List (Line (List ℕ))
 worked =
@@ -167,9 +170,18 @@ worked =
     ∷ (relabel (0 ∷ 0 ∷ 2 ∷ []) (1 ∷ 2 ∷ 0 ∷ []), made (0 ∷ 0 ∷ 1 ∷ []))
     ∷ []
 
-worked-hold : Hold worked
-unfolding toText relabel
-worked-hold = refl
+worked-hold : Each bounds × Hold queued × Hold worked
+unfolding toText fromLabels pack unpack shuffle relabel pairText IsLe allDigits valueFrom
+worked-hold =
+    let to-5 = pair (pair (pair (pair (pair node-0 node-1) node-2) node-3) (digit 52 refl refl)) (digit 53 refl refl) in
+    let to-9 = pair (pair (pair (pair to-5 (digit 54 refl refl)) (digit 55 refl refl)) (digit 56 refl refl)) (digit 57 refl refl) in
+    let ten = label (number 49 (48 ∷ []) refl refl (le-by-compare 1 3 tt)) in
+    (line refl (reads-as _ (le-by-compare 43 6056 tt) (text (pair to-9 ten))) (packs refl refl) end, refl, refl)
+
+-- numbers in decimal
+decimals : map (λ x. textOf (leaf x)) (0 ∷ 9 ∷ 10 ∷ 99 ∷ 100 ∷ 999 ∷ 1000 ∷ 1023 ∷ []) ≡ map bytes ("0;" ∷ "9;" ∷ "10;" ∷ "99;" ∷ "100;" ∷ "999;" ∷ "1000;" ∷ "1023;" ∷ [])
+unfolding textOf
+decimals = refl
 
 -- Where two refusals would do, 01's "Order" decides; and each way in which one number is refused.
 abbrev orders : List (Line (List ℕ))
@@ -202,6 +214,42 @@ orders =
 orders-hold : Hold orders
 unfolding pack fromTable unpack relabel
 orders-hold = refl
+
+-- 2^k copies of a node as one node: its bytes, its tree, and how deep it goes where the copies go to d
+copies : ℕ → List ℕ → List ℕ
+unfolding pairText
+copies zero s = s
+copies (suc k) s = copies k (pairText s s)
+
+even : ℕ → Tree → Tree
+even zero t = t
+even (suc k) t = even k (node t t)
+
+deeper : ℕ → ℕ → ℕ
+deeper zero d = d
+deeper (suc k) d = deeper k (suc d)
+
+copied : (k : ℕ) {d : ℕ} {s : List ℕ} {t : Tree} → Node d s t → Node (deeper k d) (copies k s) (even k t)
+unfolding copies even deeper
+copied zero n = n
+copied (suc k) n = copied k (pair n n)
+
+-- 1,158 labels in 6,056 bytes
+abbrev long : List ℕ
+long =
+    pairText (copies 10 (bytes "10")) (pairText (copies 7 (bytes "1000")) (pairText (copies 2 (bytes "1000")) (copies 1 (bytes "1000")))) ++ (59 ∷ [])
+
+-- "Text: 2 (above 6,056 bytes, place 6056), 8, 1, 9": 1 where labels stand twice, 2 where the grammar is broken
+long-texts : FromText long (refuses 1 0) × FromText (replicate 6057 40) (refuses 2 6056)
+unfolding copies even deeper fromLabels pairText IsLe allDigits valueFrom
+long-texts = (
+  reads-as _ (le-by-compare 6056 6056 tt) (text (pair (copied 10 (label (number 49 (48 ∷ []) refl refl (le-by-compare 1 3 tt))))
+      (pair (copied 7 thousand) (pair (copied 2 thousand) (copied 1 thousand))))),
+  too-long (le-by-compare 6057 6057 tt),
+)
+  where
+    thousand : {d : ℕ} → Node d (49 ∷ 48 ∷ 48 ∷ 48 ∷ []) (leaf 1000)
+    thousand = label (number 49 (48 ∷ 48 ∷ 48 ∷ []) refl refl (le-by-compare 3 3 tt))
 
 -- Figure S1 of document 001, the run of 0,0,2,3: before each step the names of the clusters (the figure's P), the labels that leaves give
 -- the clusters named below them (its L: a row for each leaf that still names a cluster, and the last row, of all four), the next merge.
