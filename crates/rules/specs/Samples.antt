@@ -1,7 +1,7 @@
--- The samples of 01, proved of the definitions.
+-- The samples of 01, proved of the definitions, and more of them: an edit of a definition of rules should break one.
 -- Main results: samples-hold (the marked ones: one table, one statement), refused-hold (01's refusals), worked-hold (worked by hand),
--- orders-hold (which refusal comes first), figure-s1 (a run step by step), turned-back (every vector of up to five entries, from its tree,
--- table and record), listing-sample.
+-- orders-hold and long-texts (which refusal comes first), figure-s1 (a run step by step), turned-back (every vector of up to five
+-- entries, from its tree, table and record), listings-hold.
 use mathlib.Core.Bool.{Bool, true, false, _&&_, cond}
 use mathlib.Core.List.{List, [], _∷_, _++_, map, flatMap}
 use mathlib.Core.Option.{Option, none, some}
@@ -321,8 +321,18 @@ turned-back : allComeBack (vectors 1 ++ vectors 2 ++ vectors 3 ++ vectors 4 ++ v
 unfolding allComeBack vectors
 turned-back = refl
 
--- 01, "The listing program": its sample
-listing-sample : listing 10 (0x00 ∷ 0x8C ∷ 0x00 ∷ 0x40 ∷ 0x00 ∷ 0x91 ∷ 0x00 ∷ [])
-    ≡ bytes "4 0,0,1,4 ((0,(1,2)),3);\n2 0,0 (0,1);\n4 0,0,2,1 ((0,(1,3)),2);\nrefused 2 2\n"
-unfolding listing
-listing-sample = refl
+-- 01, "The listing program": its sample; empty input; a refused record; 1 for an n that is too large, before 2 where the input ends
+-- inside a record; and no more than the given number of records
+listings : List (List ℕ × String)
+listings =
+    (listing 10 (0x00 ∷ 0x8C ∷ 0x00 ∷ 0x40 ∷ 0x00 ∷ 0x91 ∷ 0x00 ∷ []), "4 0,0,1,4 ((0,(1,2)),3);\n2 0,0 (0,1);\n4 0,0,2,1 ((0,(1,3)),2);\nrefused 2 2\n")
+    ∷ (listing 10 [], "")
+    ∷ (listing 10 (0x00 ∷ 0x41 ∷ 0x00 ∷ 0x40 ∷ []), "refused 10 1\n")
+    ∷ (listing 10 (0xFF ∷ 0xFF ∷ []), "refused 1 0\n")
+    ∷ (listing 10 (0x01 ∷ 0x74 ∷ 0xD1 ∷ []), "refused 2 6\n")
+    ∷ (listing 2 (0x00 ∷ 0x20 ∷ 0x00 ∷ 0x40 ∷ 0x00 ∷ 0x20 ∷ []), "1 0 0;\n2 0,0 (0,1);\n")
+    ∷ []
+
+listings-hold : map (λ l. l .0) listings ≡ map (λ l. bytes (l .1)) listings
+unfolding listings listing
+listings-hold = refl
