@@ -1,6 +1,6 @@
 -- The samples of 01, proved of the definitions, and more of them: an edit of a definition of rules should break one.
 -- Main results: samples-hold (the marked ones: one table, one statement), refused-hold (01's refusals), worked-hold (worked by hand),
--- orders-hold and long-texts (which refusal comes first), figure-s1 (a run step by step), turned-back (every vector of up to five
+-- orders-hold and long-texts (which refusal comes first), rooms-hold (what comes back), figure-s1 (a run step by step), turned-back (every vector of up to five
 -- entries, from its tree, table and record), listings-hold.
 use mathlib.Core.Bool.{Bool, true, false, _&&_, cond}
 use mathlib.Core.List.{List, [], _∷_, _++_, map, flatMap}
@@ -20,16 +20,17 @@ use Rattle.rules.specs.Order.{listed, vectorOf}
 use Rattle.rules.specs.Table.{tableOf}
 use Rattle.rules.specs.Newick.{pairText, textOf, allDigits, valueFrom, nought, number, Node, label, pair, text}
 use Rattle.rules.specs.Record.{recordOf}
-use Rattle.rules.specs.Answer.{Making, Made, made, refuses}
+use Rattle.rules.specs.Answer.{Outcome, done, refused, Making, Made, made, refuses}
+use Rattle.rules.specs.Promise.{Call, answers, holds}
 use Rattle.rules.specs.Listing.{listing}
-use Rattle.rules.specs.CallCheck.{check}
+use Rattle.rules.specs.CallCheck.{check, check-call}
 use Rattle.rules.specs.CallToTable.{toTable}
 use Rattle.rules.specs.CallFromTable.{fromTable}
 use Rattle.rules.specs.CallToNewick.{toText}
 use Rattle.rules.specs.CallFromNewick.{fromLabels, FromText, too-long, reads-as}
-use Rattle.rules.specs.CallPack.{pack}
+use Rattle.rules.specs.CallPack.{pack, pack-call}
 use Rattle.rules.specs.CallUnpack.{unpack}
-use Rattle.rules.specs.CallShuffle.{shuffle}
+use Rattle.rules.specs.CallShuffle.{shuffle, shuffle-call}
 use Rattle.rules.specs.CallRelabel.{relabel}
 
 -- the bytes of a quoted text
@@ -68,8 +69,8 @@ data Each : List Marked → Type 0 where
 abbrev Line : Type 0 → Type 0
 Line W = Making W × Making W
 
-abbrev Hold : {W : Type 0} → List (Line W) → Type 0
-Hold {W} ls = map (λ (l : Line W). l .0) ls ≡ map (λ (l : Line W). l .1) ls
+abbrev Hold : {A : Type 0} → List (A × A) → Type 0
+Hold {A} ls = map (λ (l : A × A). l .0) ls ≡ map (λ (l : A × A). l .1) ls
 
 -- the marked tables and relabelling; the table is read back too, and the rows are in the sender's order
 abbrev tables : List (Line (List ℕ))
@@ -251,6 +252,40 @@ long-texts = (
     thousand : {d : ℕ} → Node d (49 ∷ 48 ∷ 48 ∷ 48 ∷ []) (leaf 1000)
     thousand = label (number 49 (48 ∷ 48 ∷ 48 ∷ []) refl refl (le-by-compare 3 3 tt))
 
+-- 01, "What comes back": the outcome, and what the lent buffers then hold
+back : {Lent Written : Type 0} → Call Lent Written → Making Written → Lent → Outcome × Lent
+unfolding answers holds
+back c what old = (answers c what old, holds c what old)
+
+packed : List ℕ → List ℕ → Outcome × List ℕ
+unfolding back pack
+packed v = back (pack-call v) (pack v)
+
+-- room for three bytes, for the two needed, for one; a vector that is refused
+abbrev rooms : List ((Outcome × List ℕ) × (Outcome × List ℕ))
+rooms =
+    (packed (0 ∷ 0 ∷ []) (7 ∷ 8 ∷ 9 ∷ []), (done 2, 0x00 ∷ 0x40 ∷ 9 ∷ []))
+    ∷ (packed (0 ∷ 0 ∷ []) (7 ∷ 8 ∷ []), (done 2, 0x00 ∷ 0x40 ∷ []))
+    ∷ (packed (0 ∷ 0 ∷ []) (7 ∷ []), (refused 3 2, 7 ∷ []))
+    ∷ (packed (0 ∷ 1 ∷ []) (7 ∷ []), (refused 4 1, 7 ∷ []))
+    ∷ []
+
+shuffled : List ℕ × List ℕ → Outcome × (List ℕ × List ℕ)
+unfolding back shuffle
+shuffled = back (shuffle-call (0 ∷ 0 ∷ [])) (shuffle (0 ∷ 0 ∷ []))
+
+-- two buffers, either of which may be too short
+abbrev twoRooms : List ((Outcome × (List ℕ × List ℕ)) × (Outcome × (List ℕ × List ℕ)))
+twoRooms =
+    (shuffled (7 ∷ 8 ∷ 9 ∷ [], 6 ∷ 5 ∷ []), (done 2, (0 ∷ 1 ∷ 9 ∷ [], 0 ∷ 0 ∷ [])))
+    ∷ (shuffled (7 ∷ [], 6 ∷ 5 ∷ []), (refused 3 2, (7 ∷ [], 6 ∷ 5 ∷ [])))
+    ∷ (shuffled (7 ∷ 8 ∷ [], 6 ∷ []), (refused 3 2, (7 ∷ 8 ∷ [], 6 ∷ [])))
+    ∷ []
+
+rooms-hold : Hold rooms × Hold twoRooms × (back (check-call (0 ∷ 0 ∷ [])) (check (0 ∷ 0 ∷ [])) tt ≡ (done 0, tt))
+unfolding packed shuffled back check
+rooms-hold = (refl, refl, refl)
+
 -- Figure S1 of document 001, the run of 0,0,2,3: before each step the names of the clusters (the figure's P), the labels that leaves give
 -- the clusters named below them (its L: a row for each leaf that still names a cluster, and the last row, of all four), the next merge.
 abbrev View : Type 0
@@ -323,16 +358,16 @@ turned-back = refl
 
 -- 01, "The listing program": its sample; empty input; a refused record; 1 for an n that is too large, before 2 where the input ends
 -- inside a record; and no more than the given number of records
-listings : List (List ℕ × String)
+abbrev listings : List (List ℕ × List ℕ)
 listings =
-    (listing 10 (0x00 ∷ 0x8C ∷ 0x00 ∷ 0x40 ∷ 0x00 ∷ 0x91 ∷ 0x00 ∷ []), "4 0,0,1,4 ((0,(1,2)),3);\n2 0,0 (0,1);\n4 0,0,2,1 ((0,(1,3)),2);\nrefused 2 2\n")
-    ∷ (listing 10 [], "")
-    ∷ (listing 10 (0x00 ∷ 0x41 ∷ 0x00 ∷ 0x40 ∷ []), "refused 10 1\n")
-    ∷ (listing 10 (0xFF ∷ 0xFF ∷ []), "refused 1 0\n")
-    ∷ (listing 10 (0x01 ∷ 0x74 ∷ 0xD1 ∷ []), "refused 2 6\n")
-    ∷ (listing 2 (0x00 ∷ 0x20 ∷ 0x00 ∷ 0x40 ∷ 0x00 ∷ 0x20 ∷ []), "1 0 0;\n2 0,0 (0,1);\n")
+    (listing 10 (0x00 ∷ 0x8C ∷ 0x00 ∷ 0x40 ∷ 0x00 ∷ 0x91 ∷ 0x00 ∷ []), bytes "4 0,0,1,4 ((0,(1,2)),3);\n2 0,0 (0,1);\n4 0,0,2,1 ((0,(1,3)),2);\nrefused 2 2\n")
+    ∷ (listing 10 [], bytes "")
+    ∷ (listing 10 (0x00 ∷ 0x41 ∷ 0x00 ∷ 0x40 ∷ []), bytes "refused 10 1\n")
+    ∷ (listing 10 (0xFF ∷ 0xFF ∷ []), bytes "refused 1 0\n")
+    ∷ (listing 10 (0x01 ∷ 0x74 ∷ 0xD1 ∷ []), bytes "refused 2 6\n")
+    ∷ (listing 2 (0x00 ∷ 0x20 ∷ 0x00 ∷ 0x40 ∷ 0x00 ∷ 0x20 ∷ []), bytes "1 0 0;\n2 0,0 (0,1);\n")
     ∷ []
 
-listings-hold : map (λ l. l .0) listings ≡ map (λ l. bytes (l .1)) listings
-unfolding listings listing
+listings-hold : Hold listings
+unfolding listing
 listings-hold = refl
