@@ -2,7 +2,8 @@
 -- Main results: samples-hold (the marked ones: one table, one statement), refused-hold (01's refusals), worked-hold (worked by hand),
 -- orders-hold and long-texts (which refusal comes first), rooms-hold (what comes back), figure-s1 (a run step by step), turned-back (every vector of up to five
 -- entries, from its tree, table and record), listings-hold.
-use mathlib.Core.Bool.{Bool, true, false, _&&_, cond}
+use mathlib.Core.Bool.{Bool, true, false, _&&_, cond, false≢true}
+use mathlib.Core.Logic.{_≢_}
 use mathlib.Core.List.{List, [], _∷_, _++_, map, flatMap}
 use mathlib.Core.Option.{Option, none, some}
 use mathlib.Core.Path.{_≡_, refl}
@@ -12,13 +13,13 @@ use Prim.Native.String.{String, [] as []ˢ, _∷_ as _∷ˢ_}
 use native.Mathlib.Bridge.{le-by-compare, IsLe}
 use native.Mathlib.Omega.{arith}
 use lib.Dec.{eqb}
-use lib.ListN.{length, replicate}
+use lib.ListN.{length, getD, replicate}
 use Rattle.rules.specs.Building.{Merge, State, below, start, next, merge, merges}
 use Rattle.rules.specs.Vector.{entry, bound, Valid}
 use Rattle.rules.specs.Tree.{Tree, leaf, node, treeOf}
 use Rattle.rules.specs.Order.{listed, vectorOf}
 use Rattle.rules.specs.Table.{tableOf}
-use Rattle.rules.specs.Newick.{pairText, textOf, allDigits, valueFrom, nought, number, Node, label, pair, text}
+use Rattle.rules.specs.Newick.{pairText, textOf, isDigit, allDigits, valueFrom, nought, number, Node, label, pair, Text, text, Begins, broken, ended}
 use Rattle.rules.specs.Record.{recordOf}
 use Rattle.rules.specs.Answer.{Outcome, done, refused, Making, Made, made, refuses}
 use Rattle.rules.specs.Promise.{Call, answers, holds}
@@ -27,7 +28,7 @@ use Rattle.rules.specs.CallCheck.{check, check-call}
 use Rattle.rules.specs.CallToTable.{toTable}
 use Rattle.rules.specs.CallFromTable.{fromTable}
 use Rattle.rules.specs.CallToNewick.{toText}
-use Rattle.rules.specs.CallFromNewick.{fromLabels, FromText, too-long, reads-as}
+use Rattle.rules.specs.CallFromNewick.{fromLabels, FromText, too-long, breaks, reads-as, from-newick-call}
 use Rattle.rules.specs.CallPack.{pack, pack-call}
 use Rattle.rules.specs.CallUnpack.{unpack}
 use Rattle.rules.specs.CallShuffle.{shuffle, shuffle-call}
@@ -252,6 +253,30 @@ long-texts = (
     thousand : {d : ℕ} → Node d (49 ∷ 48 ∷ 48 ∷ 48 ∷ []) (leaf 1000)
     thousand = label (number 49 (48 ∷ 48 ∷ 48 ∷ []) refl refl (le-by-compare 3 3 tt))
 
+-- which bytes are digits
+signs : (map isDigit (47 ∷ 48 ∷ 57 ∷ 58 ∷ []) ≡ false ∷ true ∷ true ∷ false ∷ []) × (map allDigits ((49 ∷ 44 ∷ []) ∷ (44 ∷ 49 ∷ []) ∷ []) ≡ false ∷ false ∷ [])
+unfolding isDigit allDigits
+signs = (refl, refl)
+
+-- no text is empty, and none begins with a closing bracket
+begins-well : {s : List ℕ} {t : Tree} → Text s t → (1 ≤ length s) × (getD s 0 0 ≢ 41)
+unfolding pairText allDigits isDigit
+begins-well (text (label nought)) = (omega arith, λ e. omega arith)
+begins-well (text (label (number c s h k l))) = (omega arith, λ e. false≢true (rw e at h))
+begins-well (text (pair n m)) = (omega arith, λ e. omega arith)
+
+begins : Begins []
+unfolding Begins
+begins = (48 ∷ 59 ∷ [], leaf 0, text node-0)
+
+-- texts that break the grammar at once: the empty one, and 6,056 closing brackets
+broken-texts : FromText [] (refuses 8 0) × FromText (replicate 6056 41) (refuses 8 0)
+unfolding Begins IsLe
+broken-texts = (
+  breaks (le-by-compare 0 6056 tt) (ended begins (λ t k. let l = begins-well k .0 in omega arith)),
+  breaks (le-by-compare 6056 6056 tt) (broken (le-by-compare 1 6056 tt) begins (λ w. begins-well (w .2) .1 refl)),
+)
+
 -- 01, "What comes back": the outcome, and what the lent buffers then hold
 back : {Lent Written : Type 0} → Call Lent Written → Making Written → Lent → Outcome × Lent
 unfolding answers holds
@@ -283,8 +308,9 @@ twoRooms =
     ∷ []
 
 rooms-hold : Hold rooms × Hold twoRooms × (back (check-call (0 ∷ 0 ∷ [])) (check (0 ∷ 0 ∷ [])) tt ≡ (done 0, tt))
+    × (back (from-newick-call (bytes "0;")) (made (0 ∷ [])) [] ≡ (refused 3 1, []))
 unfolding packed shuffled back check
-rooms-hold = (refl, refl, refl)
+rooms-hold = (refl, refl, refl, refl)
 
 -- Figure S1 of document 001, the run of 0,0,2,3: before each step the names of the clusters (the figure's P), the labels that leaves give
 -- the clusters named below them (its L: a row for each leaf that still names a cluster, and the last row, of all four), the next merge.
