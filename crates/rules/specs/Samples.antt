@@ -6,14 +6,14 @@ use mathlib.Core.Bool.{Bool, true, false, _&&_, cond, false≢true}
 use mathlib.Core.Logic.{_≢_}
 use mathlib.Core.List.{List, [], _∷_, _++_, map, flatMap}
 use mathlib.Core.Option.{Option, none, some}
-use mathlib.Core.Path.{_≡_, refl}
+use mathlib.Core.Path.{_≡_, refl, sym, _∙_}
 use Prim.Native.Char.{code}
 use Prim.Native.Nat.{ℕ, zero, suc, _≤_, _<_}
 use Prim.Native.String.{String, [] as []ˢ, _∷_ as _∷ˢ_}
 use native.Mathlib.Bridge.{le-by-compare, IsLe}
 use native.Mathlib.Omega.{arith}
 use lib.Dec.{eqb}
-use lib.ListN.{length, getD, replicate}
+use lib.ListN.{length, getD, replicate, length-append}
 use Rattle.rules.specs.Building.{Merge, State, below, start, next, merge, merges}
 use Rattle.rules.specs.Vector.{entry, bound, Valid}
 use Rattle.rules.specs.Tree.{Tree, leaf, node, treeOf}
@@ -258,24 +258,66 @@ signs : (map isDigit (47 ∷ 48 ∷ 57 ∷ 58 ∷ []) ≡ false ∷ true ∷ tru
 unfolding isDigit allDigits
 signs = (refl, refl)
 
--- no text is empty, and none begins with a closing bracket
+-- What stands at the first places of a text, and at its last.
 begins-well : {s : List ℕ} {t : Tree} → Text s t → (1 ≤ length s) × (getD s 0 0 ≢ 41)
 unfolding pairText allDigits isDigit
 begins-well (text (label nought)) = (omega arith, λ e. omega arith)
 begins-well (text (label (number c s h k l))) = (omega arith, λ e. false≢true (rw e at h))
 begins-well (text (pair n m)) = (omega arith, λ e. omega arith)
 
-begins : Begins []
-unfolding Begins
-begins = (48 ∷ 59 ∷ [], leaf 0, text node-0)
+ends-well : {s : List ℕ} {t : Tree} → Text s t → (k : ℕ) → length s ≡ suc k → getD s k 0 ≡ 59
+ends-well (text {s} n) k e = rw (let z : k ≡ length s = omega (arith, length-append s (59 ∷ [])) in z) (last s)
+  where
+    last : (s : List ℕ) → getD (s ++ (59 ∷ [])) (length s) 0 ≡ 59
+    last [] = refl
+    last (x ∷ s) = last s
 
--- texts that break the grammar at once: the empty one, and 6,056 closing brackets
-broken-texts : FromText [] (refuses 8 0) × FromText (replicate 6056 41) (refuses 8 0)
-unfolding Begins IsLe
+-- behind "0" no digit follows
+nought-alone : {s : List ℕ} {t : Tree} → Text s t → getD s 0 0 ≡ 48 → getD s 1 0 ≢ 49
+unfolding pairText
+nought-alone (text (label nought)) e f = omega arith
+nought-alone (text (label (number c s h k l))) e f = false≢true (sym k ∙ rw e)
+nought-alone (text (pair n m)) e f = omega arith
+
+-- behind four digits no fifth follows
+four-digits : {s : List ℕ} {t : Tree} → Text s t → getD s 0 0 ≡ 49 → getD s 1 0 ≡ 50 → getD s 2 0 ≡ 51 → getD s 3 0 ≡ 52 → getD s 4 0 ≢ 53
+unfolding pairText
+four-digits (text (label nought)) e₀ e₁ e₂ e₃ e₄ = omega arith
+four-digits (text (label (number c [] h k l))) e₀ e₁ e₂ e₃ e₄ = omega arith
+four-digits (text (label (number c (x ∷ []) h k l))) e₀ e₁ e₂ e₃ e₄ = omega arith
+four-digits (text (label (number c (x ∷ y ∷ []) h k l))) e₀ e₁ e₂ e₃ e₄ = omega arith
+four-digits (text (label (number c (x ∷ y ∷ z ∷ []) h k l))) e₀ e₁ e₂ e₃ e₄ = omega arith
+four-digits (text (label (number c (x ∷ y ∷ z ∷ w ∷ s) h k l))) e₀ e₁ e₂ e₃ e₄ = omega arith
+four-digits (text (pair n m)) e₀ e₁ e₂ e₃ e₄ = omega arith
+
+-- behind the second node of a pair no comma follows
+two-nodes : {s : List ℕ} {t : Tree} → Text s t → getD s 0 0 ≡ 40 → getD s 1 0 ≡ 48 → getD s 2 0 ≡ 44 → getD s 3 0 ≡ 49 → getD s 4 0 ≢ 44
+unfolding pairText allDigits isDigit
+two-nodes (text (label nought)) e₀ e₁ e₂ e₃ e₄ = omega arith
+two-nodes (text (label (number c s h k l))) e₀ e₁ e₂ e₃ e₄ = false≢true (rw e₀ at h)
+two-nodes (text (pair (label nought) (label nought))) e₀ e₁ e₂ e₃ e₄ = omega arith
+two-nodes (text (pair (label nought) (label (number c [] h k l)))) e₀ e₁ e₂ e₃ e₄ = omega arith
+two-nodes (text (pair (label nought) (label (number c (x ∷ s) h k l)))) e₀ e₁ e₂ e₃ e₄ = false≢true (rw (e₃, e₄) at h)
+two-nodes (text (pair (label nought) (pair n m))) e₀ e₁ e₂ e₃ e₄ = omega arith
+two-nodes (text (pair (label (number c s h k l)) m)) e₀ e₁ e₂ e₃ e₄ = false≢true (sym k ∙ rw e₁)
+two-nodes (text (pair (pair n m) o)) e₀ e₁ e₂ e₃ e₄ = omega arith
+
+-- 01's texts that break the grammar, each with a text that begins as it does up to its place
+broken-texts : FromText (bytes "") (refuses 8 0) × FromText (bytes "01;") (refuses 8 1) × FromText (bytes "(0,1)") (refuses 8 5)
+    × FromText (bytes "(0,1,2);") (refuses 8 4) × FromText (bytes "12345;") (refuses 8 4) × FromText (replicate 6056 41) (refuses 8 0)
+unfolding Begins IsLe pairText allDigits valueFrom
 broken-texts = (
-  breaks (le-by-compare 0 6056 tt) (ended begins (λ t k. let l = begins-well k .0 in omega arith)),
-  breaks (le-by-compare 6056 6056 tt) (broken (le-by-compare 1 6056 tt) begins (λ w. begins-well (w .2) .1 refl)),
+  breaks (le-by-compare 0 6056 tt) (ended nothing (λ t k. let l = begins-well k .0 in omega arith)),
+  breaks (le-by-compare 3 6056 tt) (broken (le-by-compare 2 3 tt) (59 ∷ [], leaf 0, text node-0) (λ w. nought-alone (w .2) refl refl)),
+  breaks (le-by-compare 5 6056 tt) (ended (59 ∷ [], _, text (pair node-0 node-1)) (λ t k. let e = ends-well k 4 refl in omega arith)),
+  breaks (le-by-compare 8 6056 tt) (broken (le-by-compare 5 8 tt) (bytes ");", _, text (pair node-0 node-1)) (λ w. two-nodes (w .2) refl refl refl refl refl)),
+  breaks (le-by-compare 6 6056 tt)
+      (broken (le-by-compare 5 6 tt) (59 ∷ [], _, text (label (number 49 (50 ∷ 51 ∷ 52 ∷ []) refl refl (le-by-compare 3 3 tt)))) (λ w. four-digits (w .2) refl refl refl refl refl)),
+  breaks (le-by-compare 6056 6056 tt) (broken (le-by-compare 1 6056 tt) nothing (λ w. begins-well (w .2) .1 refl)),
 )
+  where
+    nothing : Begins []
+    nothing = (bytes "0;", leaf 0, text node-0)
 
 -- 01, "What comes back": the outcome, and what the lent buffers then hold
 back : {Lent Written : Type 0} → Call Lent Written → Making Written → Lent → Outcome × Lent
