@@ -2,23 +2,22 @@
 -- Main definitions: heldMerges, heldRows, Held, Numbered. Main results: numbered-start, turn, row-at, numbered-next, held-of.
 use mathlib.Core.Path.{_≡_, refl, sym, ap, ap₂, _∙_}
 use mathlib.Core.Bool.{Bool, true, false, cond}
-use mathlib.Core.List.{List, _∷_, _++_, map}
+use mathlib.Core.List.{List, _∷_, map}
 use Prim.Native.Nat.{ℕ, suc, _+_, _-_, _≤_, _<_}
 use native.Mathlib.Numerals.{add-one}
 use native.Mathlib.Omega.{arith}
 use lib.Dec.{eqb}
-use lib.ListN.{length, take, drop, getD, set, length-map, length-take, length-drop, length-set, List·getD-map}
-use lib.Seq.{drop-cons, drop-drop, getD-drop, getD-set-same, getD-set-other, take-all}
+use lib.ListN.{length, take, drop, getD, set, length-map, length-take, length-drop, length-set}
+use lib.Seq.{drop-cons, drop-drop, getD-drop, getD-set-same, getD-set-other}
 use borrow.Author.Tests.{eqb-true, eqb-false}
 use Rattle.rules.specs.Vector.{entry, Valid}
 use Rattle.rules.specs.Building.{Merge}
 use Rattle.rules.specs.Table.{Row, rowsFrom}
-use Rattle.vector.specs.Front.{mix, mix-start, mix-step}
 use Rattle.merging.specs.Insertion.{pairsOf, pairs, valid-bounded}
 use Rattle.merging.specs.Greedy.{under-pairs}
 use Rattle.merging.specs.Named.{rising}
 use Rattle.merges.specs.Held.{held, merge-at}
-use Rattle.table_laws.specs.Rows.{first, second, Inside, inside, inside-drop, inside-at, rows-length, rows-cong}
+use Rattle.table_laws.specs.Rows.{Inside, inside, inside-drop, inside-at, rows-length, rows-cong}
 
 -- the merges that the two lists hold
 unfoldable pub heldMerges : List ℕ → List ℕ → ℕ → ℕ → List Merge

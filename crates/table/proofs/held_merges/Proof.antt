@@ -1,6 +1,5 @@
 -- `held_merges` meets its contract: what `merges` has written, with each leaf as its own node.
 use Rattle.table.specs.Numbered.{held-of, rows-of-pairs}
-use native.Mathlib.Omega.{arith}
 use borrow.Author.Needs.{needs}
 use Rattle.table.proofs.held_merges.Statement.{statement}
 use Rattle.table.proofs.held_merges.Tie as tie

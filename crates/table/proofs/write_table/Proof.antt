@@ -1,50 +1,45 @@
--- `write_table` meets its contract: the rows of the merges that are held.
+-- `write_table` meets its contract: the children of the rows of v, copied out as rows.
 use mathlib.Core.Path.{_∙_}
+use Rattle.table.specs.Written.{rows-of-children}
 use borrow.Author.Needs.{needs}
 use Rattle.table.proofs.write_table.Statement.{statement}
 use Rattle.table.proofs.write_table.Tie as tie
 
-slice-aggregate-held-merges : tie.Need-slice-aggregate-held-merges
-slice-aggregate-held-merges c = search needs
+slice-aggregate-rows-of : tie.Need-slice-aggregate-rows-of
+slice-aggregate-rows-of c = search needs
 
-slice-aggregate-held-merges-2 : tie.Need-slice-aggregate-held-merges-2
-slice-aggregate-held-merges-2 c = search needs
+slice-aggregate-rows-of-2 : tie.Need-slice-aggregate-rows-of-2
+slice-aggregate-rows-of-2 c = search needs
 
-slice-aggregate-held-merges-3 : tie.Need-slice-aggregate-held-merges-3
-slice-aggregate-held-merges-3 c = search needs
+rows-of-requires : tie.Need-rows-of-requires
+rows-of-requires c κs = search needs
 
-held-merges-requires : tie.Need-held-merges-requires
-held-merges-requires c κs = search needs
+slice-aggregate-copy-rows : tie.Need-slice-aggregate-copy-rows
+slice-aggregate-copy-rows c = search needs
 
-slice-aggregate-write-rows : tie.Need-slice-aggregate-write-rows
-slice-aggregate-write-rows c = search needs
+slice-aggregate-copy-rows-2 : tie.Need-slice-aggregate-copy-rows-2
+slice-aggregate-copy-rows-2 c = search needs
 
-slice-aggregate-write-rows-2 : tie.Need-slice-aggregate-write-rows-2
-slice-aggregate-write-rows-2 c = search needs
-
-slice-aggregate-write-rows-3 : tie.Need-slice-aggregate-write-rows-3
-slice-aggregate-write-rows-3 c = search needs
-
-write-rows-requires : tie.Need-write-rows-requires
-write-rows-requires c κs = search needs
+copy-rows-requires : tie.Need-copy-rows-requires
+copy-rows-requires c κs = search needs
 
 same-length : tie.Need-same-length
 same-length c = search needs
 
 returns : tie.Need-returns
-returns c = c .before .before .before .write-rows .ensures ∙ rw (c .before .before .before .before .before .before .before .before .before .before .before .held-merges .ensures .1)
+returns c =
+    let made = c .before .before .before .before .before .before .before .before .rows-of .ensures in
+    c .before .before .copy-rows .ensures ∙ rw (rows-of-children _ _ _ _ _ (made .0) (made .1))
 
 pub write-table-spec : {M : Type 1} → statement M
 write-table-spec =
     tie.close
     (tie.spec
-    slice-aggregate-held-merges
-    slice-aggregate-held-merges-2
-    slice-aggregate-held-merges-3
-    held-merges-requires
-    slice-aggregate-write-rows
-    slice-aggregate-write-rows-2
-    slice-aggregate-write-rows-3
-    write-rows-requires
+    slice-aggregate-rows-of
+    slice-aggregate-rows-of-2
+    rows-of-requires
+    slice-aggregate-copy-rows
+    slice-aggregate-copy-rows-2
+    copy-rows-requires
     same-length
     returns)
