@@ -1,5 +1,5 @@
 -- The rows of a vector held by their children, and the same rows with renamed leaves.
--- Main definitions: vectorRows, RowsOf, Renamed, NewLabels. Main results: rows-of, rows-tree, rows-tabled, rows-renamed, new-labels.
+-- Main definitions: vectorRows, RowsOf, Renamed, NewLabels. Main results: rows-of, rows-tree, rows-tabled, rows-renamed, new-labels, renamed-front.
 use mathlib.Core.List.{List, [], _∷_, _++_, map}
 use mathlib.Core.Option.{none}
 use mathlib.Core.Path.{_≡_, refl, sym, ap, _∙_, subst}
@@ -9,11 +9,15 @@ use lib.ListN.{length, getD, take}
 use lib.Seq.{take-at}
 use Rattle.rules.specs.Vector.{entry, Valid}
 use Rattle.rules.specs.Tree.{Tree, leaf, treeOf, grown, LeavesBelow}
+use Rattle.rules.specs.Order.{vectorOf}
 use Rattle.rules.specs.Table.{Row, rowsFrom, tableFault, tableTree}
 use Rattle.rules.specs.Shuffle.{renamed, permutationFault, newOf}
 use Rattle.merging.specs.Insertion.{pairs, pairs-count}
+use Rattle.laws.specs.OneToOne.{every-tree}
 use Rattle.laws.specs.TreeOf.{tree-by-pairs, tree-leaves, tree-turned}
 use Rattle.clades.specs.Form.{Turned}
+use Rattle.shuffle_laws.specs.Permutation.{permutes}
+use Rattle.shuffle_laws.specs.Renaming.{renamed-below}
 use Rattle.shuffle_laws.specs.Rows.{renamedRows, renamed-rows}
 use Rattle.shuffle_laws.specs.Taken.{new-no-fault}
 use Rattle.table_laws.specs.Rows.{first, second, rows-length, parent-at}
@@ -122,5 +126,13 @@ new-labels {v} {left} {right} new rest R e =
     ap (take (length v)) (e ∙ ap (λ (u : Tree). newOf u ++ rest) (rows-tree R)) ∙ take-at (newOf (treeOf v)) rest (length v) (w .0) in
     record { labels = t; count = ap length t ∙ w .0; no-fault = ap (permutationFault (length v) 0 []) t ∙ w .1 }
 
-pub new-written : {v left right : List ℕ} (new rest : List ℕ) → RowsOf v left right → new ≡ newOf (heldTree (length v) left right) ++ rest → new ≡ newOf (treeOf v) ++ rest
-new-written {v} new rest R e = e ∙ ap (λ (u : Tree). newOf u ++ rest) (rows-tree R)
+-- the vector of a renamed tree has an entry for each leaf
+pub renamed-count : (v p : List ℕ) → Valid v → length p ≡ length v → permutationFault (length v) 0 [] p ≡ none → length (vectorOf (renamed p (treeOf v))) ≡ length v
+renamed-count v p ok l f =
+    every-tree (length v) (renamed p (treeOf v)) (renamed-below (permutes (length v) p l f) (tree-leaves v ok)) .entries
+
+-- so it is what is copied out of an array that begins with it
+pub renamed-front : (v p entries rest : List ℕ) → Valid v → length p ≡ length v → permutationFault (length v) 0 [] p ≡ none
+    → entries ≡ vectorOf (renamed p (treeOf v)) ++ rest → take (length v) entries ≡ vectorOf (renamed p (treeOf v))
+renamed-front v p entries rest ok l f e =
+    ap (take (length v)) e ∙ take-at (vectorOf (renamed p (treeOf v))) rest (length v) (renamed-count v p ok l f)

@@ -31,7 +31,9 @@ pub fn renamed_vector(v: &[u16], p: &[u16], vector: &mut [u16])
     let mut left = [0u16; 1024];
     let mut right = [0u16; 1024];
     table::rows_of(v, &mut left, &mut right);
-    rename_rows(v, p, &mut left, &mut right, vector);
+    let mut entries = [0u16; 1024];
+    rename_rows(v, p, &mut left, &mut right, &mut entries);
+    vector::copy_out(&entries, v.len(), vector);
 }
 
 // Queue Shuffle of v's tree: the new labels at the front of new, the vector of the relabelled tree at the front of vector.
@@ -46,6 +48,10 @@ pub fn shuffled(v: &[u16], new: &mut [u16], vector: &mut [u16])
     table::rows_of(v, &mut left, &mut right);
     let mut nodes = [0u16; 1024];
     let mut labels = [0u16; 1024];
-    shuffle::queue(n, &left, &right, &mut nodes, &mut labels, new);
-    rename_rows(v, &new[..n], &mut left, &mut right, vector);
+    let mut new_labels = [0u16; 1024];
+    shuffle::queue(n, &left, &right, &mut nodes, &mut labels, &mut new_labels);
+    let mut entries = [0u16; 1024];
+    rename_rows(v, &new_labels[..n], &mut left, &mut right, &mut entries);
+    vector::copy_out(&new_labels, n, new);
+    vector::copy_out(&entries, n, vector);
 }

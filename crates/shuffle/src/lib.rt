@@ -12,7 +12,6 @@ ghost use Rattle.shuffle.specs.Renames.{renamedTo};
 ghost use Rattle.shuffle.specs.Marks.{placeOf, Mark};
 use vector::wide;
 
-// A 16-bit number as an index.
 // A leaf gets its label; another node goes to the back of the queue with it. The result is where the queue ends then.
 fn place(
     n: usize,

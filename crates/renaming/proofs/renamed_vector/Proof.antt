@@ -1,12 +1,9 @@
+-- `renamed_vector` meets its contract: the vector is built in a local array and copied out.
 use native.Mathlib.Omega.{arith}
-use Rattle.renaming.specs.Rows.{rows-of}
+use Rattle.renaming.specs.Rows.{rows-of, renamed-front}
 use borrow.Author.Needs.{needs}
 use Rattle.renaming.proofs.renamed_vector.Statement.{statement}
 use Rattle.renaming.proofs.renamed_vector.Tie as tie
-use Rattle.renaming.proofs.renamed_vector.Reads as reads
-use Rattle.renaming.proofs.renamed_vector.Lts as lts
-use Rattle.renaming.proofs.rename_rows.Reads as rename-rows-reads
-use Rattle.table.proofs.rows_of.Reads as rows-of-reads
 
 slice-aggregate-rows-of : tie.Need-slice-aggregate-rows-of
 slice-aggregate-rows-of c = search needs
@@ -23,16 +20,27 @@ slice-aggregate-rename-rows c = search needs
 slice-aggregate-rename-rows-2 : tie.Need-slice-aggregate-rename-rows-2
 slice-aggregate-rename-rows-2 c = search needs
 
+slice-aggregate-rename-rows-3 : tie.Need-slice-aggregate-rename-rows-3
+slice-aggregate-rename-rows-3 c = search needs
+
 rename-rows-requires : tie.Need-rename-rows-requires
 rename-rows-requires c κs = let P = c .before .before .before .before .before .before .before .before .before .before .before .pre in
     let E = c .before .before .before .before .before .rows-of .ensures in
-    ((rows-of _ _ _ _ _ (P .0 .0) (omega (arith, c .before .before .before .before .before .rows-of .kept)) (omega (arith, c .before .before .before .before .before .rows-of .kept)) (P .0 .1) (E .0) (E .1), P .0 .1, P .0 .2), P .1)
+    let kept = c .before .before .before .before .before .rows-of .kept in
+    ((rows-of _ _ _ _ _ (P .0 .0) (omega arith) (omega arith) (P .0 .1) (E .0) (E .1), P .0 .1, omega (arith, P .0 .1)), P .1)
+
+slice-aggregate-copy-out : tie.Need-slice-aggregate-copy-out
+slice-aggregate-copy-out c = search needs
+
+copy-out-requires : tie.Need-copy-out-requires
+copy-out-requires c κs = search needs
 
 same-length : tie.Need-same-length
 same-length c = search needs
 
 returns : tie.Need-returns
-returns c = search needs
+returns c = let P = c .before .before .before .before .before .before .before .before .before .before .before .before .before .before .before .before .before .before .before .before .pre in
+    rw (renamed-front _ _ _ _ (P .0 .0) (P .1 .0) (P .1 .1) (c .before .before .before .before .before .before .before .before .rename-rows .ensures)) at (c .before .before .copy-out .ensures)
 
 pub renamed-vector-spec : {M : Type 1} → statement M
 renamed-vector-spec =
@@ -43,6 +51,9 @@ renamed-vector-spec =
     rows-of-requires
     slice-aggregate-rename-rows
     slice-aggregate-rename-rows-2
+    slice-aggregate-rename-rows-3
     rename-rows-requires
+    slice-aggregate-copy-out
+    copy-out-requires
     same-length
     returns)

@@ -1,15 +1,22 @@
+-- `shuffled` meets its contract: new labels and vector are built in local arrays and copied out.
 use mathlib.Core.Path.{refl}
 use lib.ListN.{length-take}
 use native.Mathlib.Omega.{arith}
-use Rattle.renaming.specs.Rows.{rows-of, rows-tabled, new-labels, new-written}
+use Rattle.renaming.specs.Rows.{RowsOf, NewLabels, rows-of, rows-tabled, new-labels, renamed-front}
 use borrow.Author.Needs.{needs}
 use Rattle.renaming.proofs.shuffled.Statement.{statement}
 use Rattle.renaming.proofs.shuffled.Tie as tie
-use Rattle.renaming.proofs.shuffled.Reads as reads
-use Rattle.renaming.proofs.shuffled.Lts as lts
-use Rattle.renaming.proofs.rename_rows.Reads as rename-rows-reads
-use Rattle.shuffle.proofs.queue.Reads as queue-reads
-use Rattle.table.proofs.rows_of.Reads as rows-of-reads
+
+-- the rows of v
+rows : (c : tie.After-rows-of) → RowsOf (c .before .before .before .before .before .before .args .v .now) (c .rows-of .last .1 .0) (c .rows-of .last .1 .1 .0)
+rows c =
+    let P = c .before .before .before .before .before .before .pre in
+    let kept = c .rows-of .kept in
+    rows-of _ _ _ _ _ (P .0) (omega arith) (omega arith) (P .1) (c .rows-of .ensures .0) (c .rows-of .ensures .1)
+
+-- and their new labels
+labels : (c : tie.After-queue) → NewLabels (c .before .before .before .before .before .before .before .before .before .before .before .before .before .before .args .v .now) (c .queue .last .1 .1 .1 .1 .1 .0)
+labels c = new-labels _ _ (rows (c .before .before .before .before .before .before .before .before)) (c .queue .ensures)
 
 slice-aggregate-rows-of : tie.Need-slice-aggregate-rows-of
 slice-aggregate-rows-of c = search needs
@@ -32,14 +39,16 @@ slice-aggregate-queue-3 c = search needs
 slice-aggregate-queue-4 : tie.Need-slice-aggregate-queue-4
 slice-aggregate-queue-4 c = search needs
 
+slice-aggregate-queue-5 : tie.Need-slice-aggregate-queue-5
+slice-aggregate-queue-5 c = search needs
+
 queue-requires : tie.Need-queue-requires
 queue-requires c κs = let P = c .before .before .before .before .before .before .before .before .before .before .before .before .before .pre in
-    let E = c .before .before .before .before .before .before .before .rows-of .ensures in
-    let R = rows-of _ _ _ _ _ (P .0) (omega (arith, c .before .before .before .before .before .before .before .rows-of .kept)) (omega (arith, c .before .before .before .before .before .before .before .rows-of .kept)) (P .1) (E .0) (E .1) in
-    (record { small = P .1; lefts = R .lefts; rights = R .rights; nodes-held = refl; labels-held = refl; room = P .2 }, rows-tabled R)
+    let R = rows (c .before .before .before .before .before .before .before) in
+    (record { small = P .1; lefts = R .lefts; rights = R .rights; nodes-held = refl; labels-held = refl; room = omega (arith, P .1) }, rows-tabled R)
 
-slice-reshare-prefix-rename-rows : tie.Need-slice-reshare-prefix-rename-rows
-slice-reshare-prefix-rename-rows c = search needs
+array-share-prefix-new-labels : tie.Need-array-share-prefix-new-labels
+array-share-prefix-new-labels c = search needs
 
 slice-aggregate-rename-rows : tie.Need-slice-aggregate-rename-rows
 slice-aggregate-rename-rows c = simp length-take (omega arith)
@@ -50,12 +59,25 @@ slice-aggregate-rename-rows-2 c = search needs
 slice-aggregate-rename-rows-3 : tie.Need-slice-aggregate-rename-rows-3
 slice-aggregate-rename-rows-3 c = search needs
 
+slice-aggregate-rename-rows-4 : tie.Need-slice-aggregate-rename-rows-4
+slice-aggregate-rename-rows-4 c = search needs
+
 rename-rows-requires : tie.Need-rename-rows-requires
-rename-rows-requires c κs = let P = c .before .before .before .before .before .before .before .before .before .before .before .before .before .before .before .before .before .before .before .before .before .before .pre in
-    let E = c .before .before .before .before .before .before .before .before .before .before .before .before .before .before .before .before .rows-of .ensures in
-    let R = rows-of _ _ _ _ _ (P .0) (omega (arith, c .before .before .before .before .before .before .before .before .before .before .before .before .before .before .before .before .rows-of .kept)) (omega (arith, c .before .before .before .before .before .before .before .before .before .before .before .before .before .before .before .before .rows-of .kept)) (P .1) (E .0) (E .1) in
-    let N = new-labels _ _ R (c .before .before .before .before .before .before .before .before .queue .ensures) in
-    ((R, P .1, P .3), (N .count, N .no-fault))
+rename-rows-requires c κs = let P = c .before .before .before .before .before .before .before .before .before .before .before .before .before .before .before .before .before .before .before .before .before .pre in
+    let N = labels (c .before .before .before .before .before .before .before) in
+    ((rows (c .before .before .before .before .before .before .before .before .before .before .before .before .before .before .before), P .1, omega (arith, P .1)), (N .count, N .no-fault))
+
+slice-aggregate-copy-out : tie.Need-slice-aggregate-copy-out
+slice-aggregate-copy-out c = search needs
+
+copy-out-requires : tie.Need-copy-out-requires
+copy-out-requires c κs = search needs
+
+slice-aggregate-copy-out-2 : tie.Need-slice-aggregate-copy-out-2
+slice-aggregate-copy-out-2 c = search needs
+
+copy-out-requires-2 : tie.Need-copy-out-requires-2
+copy-out-requires-2 c κs = search needs
 
 same-length : tie.Need-same-length
 same-length c = search needs
@@ -64,11 +86,10 @@ same-length-2 : tie.Need-same-length-2
 same-length-2 c = search needs
 
 returns : tie.Need-returns
-returns c = let P = c .before .before .before .before .before .before .before .before .before .before .before .before .before .before .before .before .before .before .before .before .before .before .before .before .before .before .before .pre in
-    let E = c .before .before .before .before .before .before .before .before .before .before .before .before .before .before .before .before .before .before .before .before .before .rows-of .ensures in
-    let R = rows-of _ _ _ _ _ (P .0) (omega (arith, c .before .before .before .before .before .before .before .before .before .before .before .before .before .before .before .before .before .before .before .before .before .rows-of .kept)) (omega (arith, c .before .before .before .before .before .before .before .before .before .before .before .before .before .before .before .before .before .before .before .before .before .rows-of .kept)) (P .1) (E .0) (E .1) in
-    let N = new-labels _ _ R (c .before .before .before .before .before .before .before .before .before .before .before .before .before .queue .ensures) in
-    (new-written _ _ R (c .before .before .before .before .before .before .before .before .before .before .before .before .before .queue .ensures), rw (N .labels) at (c .before .before .before .before .rename-rows .ensures))
+returns c = let P = c .before .before .before .before .before .before .before .before .before .before .before .before .before .before .before .before .before .before .before .before .before .before .before .before .before .before .before .before .before .before .before .before .before .before .before .pre in
+    let N = labels (c .before .before .before .before .before .before .before .before .before .before .before .before .before .before .before .before .before .before .before .before .before) in
+    let front = renamed-front _ _ _ _ (P .0) (N .count) (N .no-fault) (c .before .before .before .before .before .before .before .before .before .before .before .before .before .rename-rows .ensures) in
+    (rw (N .labels) at (c .before .before .before .before .before .before .before .copy-out .ensures), rw (N .labels) at (rw front at (c .before .before .copy-out2 .ensures)))
 
 pub shuffled-spec : {M : Type 1} → statement M
 shuffled-spec =
@@ -81,12 +102,18 @@ shuffled-spec =
     slice-aggregate-queue-2
     slice-aggregate-queue-3
     slice-aggregate-queue-4
+    slice-aggregate-queue-5
     queue-requires
-    slice-reshare-prefix-rename-rows
+    array-share-prefix-new-labels
     slice-aggregate-rename-rows
     slice-aggregate-rename-rows-2
     slice-aggregate-rename-rows-3
+    slice-aggregate-rename-rows-4
     rename-rows-requires
+    slice-aggregate-copy-out
+    copy-out-requires
+    slice-aggregate-copy-out-2
+    copy-out-requires-2
     same-length
     same-length-2
     returns)
