@@ -1,45 +1,18 @@
--- The vector with commas, entry by entry.
--- Main definitions: Listed. Main results: digits-at-most, commaed-at-most, commaed-more; listed-start, listed-next, listed-end.
-use mathlib.Core.Bool.{Bool, true, false, cond}
-use mathlib.Core.List.{List, [], _∷_, _++_, append-assoc}
-use mathlib.Core.Path.{_≡_, refl, sym, ap, ap₂, subst, _∙_}
-use Prim.Native.Nat.{ℕ, zero, suc, _+_, _-_, _*_, _/_, _%_, _≤_, _<_}
+-- The vector with commas, written entry by entry.
+-- Main definitions: Listed. Main results: listed-start, listed-next, listed-end.
+use mathlib.Core.List.{List, [], _∷_, _++_}
+use mathlib.Core.Path.{_≡_, sym, ap, subst, _∙_}
+use Prim.Native.Nat.{ℕ, _+_, _*_, _≤_, _<_}
 use native.Mathlib.Omega.{arith}
-use native.Mathlib.Nat.{add-zero, add-suc, suc-add}
 use native.Mathlib.Numerals.{add-one}
-use lib.Dec.{ltb}
-use lib.ListN.{length, getD, take, set, length-append, length-set}
-use lib.Seq.{sets, length-sets, take-suc, length-take-le, take-all}
+use lib.ListN.{length, getD, take, set, length-set}
+use lib.Seq.{take-suc, length-take-le, take-all}
 use Rattle.rules.specs.Vector.{Valid, entry, bound}
 use Rattle.rules.specs.Newick.{digits}
 use Rattle.rules.specs.Listing.{commaed}
 use Rattle.text_writer.specs.Output.{Wrote}
+use Rattle.line.specs.Commas.{digits-at-most, commaed-at-most, commaed-more}
 use Rattle.line.proofs.Written.{wrote-same, wrote-behind}
-
-pub digits-at-most : (k x : ℕ) → length (digits k x) ≤ k
-unfolding digits
-digits-at-most zero x = omega arith
-digits-at-most (suc k) x = go (ltb x 10) (digits-at-most k (x / 10))
-  where
-    go : (b : Bool) → length (digits k (x / 10)) ≤ k
-        → length (cond b ((48 + x) ∷ []) (digits k (x / 10) ++ ((48 + x % 10) ∷ []))) ≤ suc k
-    go true h = omega arith
-    go false h = omega (arith, length-append (digits k (x / 10)) ((48 + x % 10) ∷ []))
-
-pub commaed-at-most : (v : List ℕ) → length (commaed v) ≤ 5 * length v
-unfolding commaed
-commaed-at-most [] = omega arith
-commaed-at-most (x ∷ []) = omega (arith, digits-at-most 4 x)
-commaed-at-most (x ∷ y ∷ v) = omega (arith, digits-at-most 4 x, commaed-at-most (y ∷ v), length-append (digits 4 x) (44 ∷ commaed (y ∷ v)))
-
--- an entry more stands behind a comma
-pub commaed-more : (v : List ℕ) (x : ℕ) → 1 ≤ length v → commaed (v ++ (x ∷ [])) ≡ commaed v ++ (44 ∷ digits 4 x)
-unfolding commaed
-commaed-more [] x h = absurd (omega arith)
-commaed-more (a ∷ []) x h = refl
-commaed-more (a ∷ b ∷ v) x h =
-    ap (λ (w : List ℕ). digits 4 a ++ (44 ∷ w)) (commaed-more (b ∷ v) x (omega arith))
-    ∙ sym (append-assoc (digits 4 a) (44 ∷ commaed (b ∷ v)) (44 ∷ digits 4 x))
 
 -- every entry has at most four digits
 pub entry-small : (v : List ℕ) (i : ℕ) → Valid v → length v ≤ 1024 → i < length v → getD v i 0 < 10000

@@ -2,4 +2,3 @@ pub mod Written
 pub mod Commas
 pub mod Parts
 pub mod Text
-pub mod Unpacked

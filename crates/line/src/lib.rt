@@ -1,33 +1,17 @@
-// The line of a packed record: n, a space, the vector with commas, a space, the text, a line end.
+// The line of a vector: n, a space, the vector with commas, a space, the text, a line end.
 use rules::Answer;
-ghost use mathlib.Core.Path.{_≡_};
 ghost use Prim.Native.Nat.{_+_, _*_, _≤_};
 ghost use lib.ListN.{length};
 ghost use Rattle.rules.specs.Vector.{Valid};
 ghost use Rattle.rules.specs.Tree.{treeOf};
 ghost use Rattle.rules.specs.Newick.{textOf};
-ghost use Rattle.rules.specs.Answer.{reads, answer, after};
-ghost use Rattle.rules.specs.Listing.{commaed, lineOf, lineFor};
+ghost use Rattle.rules.specs.Listing.{commaed, lineOf};
 ghost use Rattle.text_writer.specs.Output.{Wrote};
 ghost use Rattle.line.specs.Front.{frontOf};
 
-/// Writes a record's line to the front of `out`, or answers the refusal of the record. The longest line has 11,182 bytes.
-pub fn line(s: &[u8], out: &mut [u8]) -> Answer
-    requires { ⌜ 12288 ≤ length (now out) ⌝ }
-    ensures { λ r. ⌜ reads r ≡ answer (lineFor (now (s .entry))) (length (now (out .entry))) ⌝ }
-    ensures { λ r. ⌜ now (out .exit) ≡ after (lineFor (now (s .entry))) (length (now (out .entry))) (now (out .entry)) ⌝ }
-{
-    let mut vector = [0u16; 1024];
-    let given = trees::unpack(s, &mut vector);
-    let Answer::Done(n) = given else {
-        return given;
-    };
-    Answer::Done(write_line(&vector[..n], out))
-}
-
-// The line of a vector.
-fn write_line(v: &[u16], out: &mut [u8]) -> usize
-    requires { ⌜ Valid (now v) × (length (now v) ≤ 1024) × (12288 ≤ length (now out)) ⌝ }
+/// Writes the line of a valid vector to the front of `out`, and answers its length. A line has at most 10,624 bytes.
+pub fn write_line(v: &[u16], out: &mut [u8]) -> usize
+    requires { ⌜ Valid (now v) × (length (now v) ≤ 1024) × (10624 ≤ length (now out)) ⌝ }
     ensures { λ r. ⌜ Wrote (lineOf (now (v .entry))) 0 (now (out .entry)) (now (out .exit)) r ⌝ }
 {
     let at = write_front(v, out);

@@ -1,39 +1,59 @@
+-- `write_front` meets its contract: n, a space, the entries and a space stand one behind another, and they fit.
 use native.Mathlib.Omega.{arith}
-use borrow.Author.Needs.{needs}
 use lib.ListN.{length, length-set}
+use Rattle.line.specs.Commas.{digits-at-most}
 use Rattle.line.proofs.Written.{wrote-same}
-use Rattle.line.proofs.Commas.{digits-at-most, commaed-at-most}
-use Rattle.line.proofs.Parts.{front-written}
+use Rattle.line.proofs.Parts.{front-written, entries-room, space-room}
 use Rattle.line.proofs.write_front.Statement.{statement}
 use Rattle.line.proofs.write_front.Tie as tie
-use Rattle.line.proofs.write_front.Reads as reads
-use Rattle.line.proofs.write_front.Lts as lts
-use Rattle.line.proofs.write_entries.Reads as write-entries-reads
-use Rattle.text_writer.proofs.write_label.Reads as write-label-reads
 
 write-label-requires : tie.Need-write-label-requires
-write-label-requires c κs = (omega (arith, c .before .before .before .pre .1), omega (arith, c .before .before .before .pre .2, digits-at-most 4 (length (c .before .before .before .args .v .now))))
+write-label-requires c κs =
+    let start = c .before .before .before in
+    (omega arith, omega (arith, digits-at-most 4 (length (start .args .v .now))))
 
 slice-write-out : tie.Need-slice-write-out
-slice-write-out c = omega (arith, c .before .before .before .before .before .before .pre .2, c .before .before .write-label .ensures .end, wrote-same (c .before .before .write-label .ensures), digits-at-most 4 (length (c .before .before .before .before .before .before .args .v .now)))
+slice-write-out c =
+    let count = c .before .before in
+    let start = count .before .before .before .before in
+    omega (arith, entries-room (start .args .v .now) (start .pre .2) (count .write-label .ensures))
 
 add-write-entries : tie.Need-add-write-entries
-add-write-entries c = omega (arith, c .before .before .before .before .before .before .before .pre .2, c .before .before .before .write-label .ensures .end, digits-at-most 4 (length (c .before .before .before .before .before .before .before .args .v .now)))
+add-write-entries c =
+    let count = c .before .before .before in
+    let start = count .before .before .before .before in
+    omega (arith, entries-room (start .args .v .now) (start .pre .2) (count .write-label .ensures))
 
 write-entries-requires : tie.Need-write-entries-requires
-write-entries-requires c κs = (c .before .before .before .before .before .before .before .pre .0, c .before .before .before .before .before .before .before .pre .1, omega (arith, c .before .before .before .before .before .before .before .pre .2, c .before .before .before .write-label .ensures .end, wrote-same (c .before .before .before .write-label .ensures), digits-at-most 4 (length (c .before .before .before .before .before .before .before .args .v .now)), length-set (c .before .before .before .write-label .last .1 .0) (c .before .before .before .write-label .result) 32))
+write-entries-requires c κs =
+    let count = c .before .before .before in
+    let start = count .before .before .before .before in
+    let p = start .pre in
+    let same = length-set (count .write-label .last .1 .0) (count .write-label .result) 32 in
+    (p .0, p .1, omega (arith, entries-room (start .args .v .now) (p .2) (count .write-label .ensures)))
 
 slice-write-out-2 : tie.Need-slice-write-out-2
-slice-write-out-2 c = omega (arith, c .before .before .before .before .before .before .before .before .before .before .pre .2, c .before .before .before .before .before .before .write-label .ensures .end, wrote-same (c .before .before .before .before .before .before .write-label .ensures), digits-at-most 4 (length (c .before .before .before .before .before .before .before .before .before .before .args .v .now)), length-set (c .before .before .before .before .before .before .write-label .last .1 .0) (c .before .before .before .before .before .before .write-label .result) 32, c .before .before .write-entries .ensures .end, wrote-same (c .before .before .write-entries .ensures), commaed-at-most (c .before .before .before .before .before .before .before .before .before .before .args .v .now))
+slice-write-out-2 c =
+    let entries = c .before .before in
+    let count = entries .before .before .before .before in
+    space-room _ (count .before .before .before .before .pre .2) (count .write-label .ensures) (entries .write-entries .ensures) .1
 
 add-result : tie.Need-add-result
-add-result c = omega (arith, c .before .before .before .before .before .before .before .before .before .before .pre .2, c .before .before .before .before .before .before .write-label .ensures .end, digits-at-most 4 (length (c .before .before .before .before .before .before .before .before .before .before .args .v .now)), c .before .before .write-entries .ensures .end, commaed-at-most (c .before .before .before .before .before .before .before .before .before .before .args .v .now))
+add-result c =
+    let entries = c .before .before in
+    let count = entries .before .before .before .before in
+    let start = count .before .before .before .before in
+    omega (arith, space-room (start .args .v .now) (start .pre .2) (count .write-label .ensures) (entries .write-entries .ensures))
 
 same-length : tie.Need-same-length
-same-length c = wrote-same (front-written _ (c .before .before .before .before .before .before .write-label .ensures) (c .before .before .write-entries .ensures))
+same-length c =
+    let entries = c .before .before in
+    wrote-same (front-written _ (entries .before .before .before .before .write-label .ensures) (entries .write-entries .ensures))
 
 returns : tie.Need-returns
-returns c = front-written _ (c .before .before .before .before .before .before .write-label .ensures) (c .before .before .write-entries .ensures)
+returns c =
+    let entries = c .before .before in
+    front-written _ (entries .before .before .before .before .write-label .ensures) (entries .write-entries .ensures)
 
 pub write-front-spec : {M : Type 1} → statement M
 write-front-spec =

@@ -1,32 +1,42 @@
+-- `write_line` meets its contract: the front, the text and the line end stand one behind another, and the line fits.
 use native.Mathlib.Omega.{arith}
-use borrow.Author.Needs.{needs}
 use Rattle.line.proofs.Written.{wrote-same}
-use Rattle.line.proofs.Text.{text-at-most}
-use Rattle.line.proofs.Parts.{front-at-most, line-written}
+use Rattle.line.proofs.Parts.{line-written, text-room, end-room}
 use Rattle.line.proofs.write_line.Statement.{statement}
 use Rattle.line.proofs.write_line.Tie as tie
-use Rattle.line.proofs.write_line.Reads as reads
-use Rattle.line.proofs.write_line.Lts as lts
-use Rattle.line.proofs.write_front.Reads as write-front-reads
-use Rattle.line.proofs.write_text.Reads as write-text-reads
 
 write-front-requires : tie.Need-write-front-requires
-write-front-requires c κs = (c .before .before .before .pre .0, c .before .before .before .pre .1, omega (arith, c .before .before .before .pre .1, c .before .before .before .pre .2))
+write-front-requires c κs = let p = c .before .before .before .pre in (p .0, p .1, omega arith)
 
 write-text-requires : tie.Need-write-text-requires
-write-text-requires c κs = (c .before .before .before .before .before .before .before .pre .0, c .before .before .before .before .before .before .before .pre .1, omega (arith, c .before .before .before .before .before .before .before .pre .1, c .before .before .before .before .before .before .before .pre .2, c .before .before .before .write-front .ensures .end, wrote-same (c .before .before .before .write-front .ensures), front-at-most (c .before .before .before .before .before .before .before .args .v .now)))
+write-text-requires c κs =
+    let front = c .before .before .before in
+    let p = front .before .before .before .before .pre in
+    (p .0, p .1, omega (arith, text-room _ (p .0) (p .1) (p .2) (front .write-front .ensures)))
 
 slice-write-out : tie.Need-slice-write-out
-slice-write-out c = omega (arith, c .before .before .before .before .before .before .before .before .before .before .pre .1, c .before .before .before .before .before .before .before .before .before .before .pre .2, c .before .before .before .before .before .before .write-front .ensures .end, wrote-same (c .before .before .before .before .before .before .write-front .ensures), front-at-most (c .before .before .before .before .before .before .before .before .before .before .args .v .now), c .before .before .write-text .ensures .end, wrote-same (c .before .before .write-text .ensures), text-at-most (c .before .before .before .before .before .before .before .before .before .before .args .v .now) (c .before .before .before .before .before .before .before .before .before .before .pre .0) (c .before .before .before .before .before .before .before .before .before .before .pre .1))
+slice-write-out c =
+    let text = c .before .before in
+    let front = text .before .before .before .before in
+    let p = front .before .before .before .before .pre in
+    end-room _ (p .0) (p .1) (p .2) (front .write-front .ensures) (text .write-text .ensures)
 
 add-result : tie.Need-add-result
-add-result c = omega (arith, c .before .before .before .before .before .before .before .before .before .before .pre .1, c .before .before .before .before .before .before .before .before .before .before .pre .2, c .before .before .before .before .before .before .write-front .ensures .end, front-at-most (c .before .before .before .before .before .before .before .before .before .before .args .v .now), c .before .before .write-text .ensures .end, text-at-most (c .before .before .before .before .before .before .before .before .before .before .args .v .now) (c .before .before .before .before .before .before .before .before .before .before .pre .0) (c .before .before .before .before .before .before .before .before .before .before .pre .1))
+add-result c =
+    let text = c .before .before in
+    let front = text .before .before .before .before in
+    let p = front .before .before .before .before .pre in
+    omega (arith, end-room _ (p .0) (p .1) (p .2) (front .write-front .ensures) (text .write-text .ensures))
 
 same-length : tie.Need-same-length
-same-length c = wrote-same (line-written _ (c .before .before .before .before .before .before .write-front .ensures) (c .before .before .write-text .ensures))
+same-length c =
+    let text = c .before .before in
+    wrote-same (line-written _ (text .before .before .before .before .write-front .ensures) (text .write-text .ensures))
 
 returns : tie.Need-returns
-returns c = line-written _ (c .before .before .before .before .before .before .write-front .ensures) (c .before .before .write-text .ensures)
+returns c =
+    let text = c .before .before in
+    line-written _ (text .before .before .before .before .write-front .ensures) (text .write-text .ensures)
 
 pub write-line-spec : {M : Type 1} → statement M
 write-line-spec =

@@ -1,3 +1,4 @@
+-- `write_text` meets its contract: there is room for the text of a valid vector, so the call is done.
 use native.Mathlib.Omega.{arith}
 use borrow.Author.Needs.{needs}
 use Rattle.rules.specs.Answer as answers
@@ -5,9 +6,6 @@ use Rattle.line.proofs.Text.{part-length, part-room, text-count, text-w
 use mathlib.Core.Path.{sym, ap, _∙_}
 use Rattle.line.proofs.write_text.Statement.{statement}
 use Rattle.line.proofs.write_text.Tie as tie
-use Rattle.line.proofs.write_text.Reads as reads
-use Rattle.line.proofs.write_text.Lts as lts
-use Rattle.trees.proofs.to_newick.Reads as to-newick-reads
 
 sub-to-newick : tie.Need-sub-to-newick
 sub-to-newick c = search needs
@@ -32,18 +30,34 @@ same-length c = search needs
 
 returns : tie.Need-returns
 unfolding answers.reads answers.numberOf
-returns c = absurd (text-not-refused _ (c .before .before .before .before .before .before .before .before .pre .0) (c .before .before .before .before .before .before .before .before .pre .1) _ _ _ (part-room (c .before .before .before .before .before .before .before .before .args .out .now) (c .before .before .before .before .before .before .before .before .args .at) (c .before .before .before .before .before .before .before .before .pre .2)) (ap answers.reads (sym (c .enum-told .given .1)) ∙ c .before .before .before .before .to-newick .ensures .0))
+returns c =
+    let call = c .before .before .before .before in
+    let start = call .before .before .before .before in
+    let p = start .pre in
+    let room = part-room (start .args .out .now) (start .args .at) (p .2) in
+    absurd (text-not-refused _ (p .0) (p .1) _ _ _ room (ap answers.reads (sym (c .enum-told .given .1)) ∙ call .to-newick .ensures .0))
 
 add-result : tie.Need-add-result
 unfolding answers.reads answers.numberOf
-add-result c = omega (arith, c .before .before .before .before .before .before .before .before .before .pre .2, text-count _ (c .before .before .before .before .before .before .before .before .before .pre .0) (c .before .before .before .before .before .before .before .before .before .pre .1) _ _ (part-room (c .before .before .before .before .before .before .before .before .before .args .out .now) (c .before .before .before .before .before .before .before .before .before .args .at) (c .before .before .before .before .before .before .before .before .before .pre .2)) (ap answers.reads (sym (c .before .k .given .1)) ∙ c .before .before .before .before .before .to-newick .ensures .0))
+add-result c =
+    let call = c .before .before .before .before .before in
+    let start = call .before .before .before .before in
+    let p = start .pre in
+    let room = part-room (start .args .out .now) (start .args .at) (p .2) in
+    omega (arith, text-count _ (p .0) (p .1) _ _ room (ap answers.reads (sym (c .before .k .given .1)) ∙ call .to-newick .ensures .0))
 
 same-length-2 : tie.Need-same-length-2
 same-length-2 c = search needs
 
 returns-2 : tie.Need-returns-2
 unfolding answers.reads answers.numberOf
-returns-2 c = text-written _ (c .before .before .before .before .before .before .before .before .before .pre .0) (c .before .before .before .before .before .before .before .before .before .pre .1) _ _ _ _ _ (c .before .before .before .before .before .before .before .before .before .pre .2) (part-length (c .before .before .before .before .before .before .before .before .before .args .out .now) (c .before .before .before .before .before .before .before .before .before .args .at)) (ap answers.reads (sym (c .before .k .given .1)) ∙ c .before .before .before .before .before .to-newick .ensures .0) (c .before .before .before .before .before .to-newick .ensures .1)
+returns-2 c =
+    let call = c .before .before .before .before .before in
+    let start = call .before .before .before .before in
+    let p = start .pre in
+    text-written _ (p .0) (p .1) _ _ _ _ _ (p .2) (part-length (start .args .out .now) (start .args .at))
+    (ap answers.reads (sym (c .before .k .given .1)) ∙ call .to-newick .ensures .0)
+    (call .to-newick .ensures .1)
 
 pub write-text-spec : {M : Type 1} → statement M
 write-text-spec =
