@@ -1,19 +1,16 @@
--- The bytes of a record, held at the start of a lent list; the bytes of a line.
--- Main results: first-two, held-same, begun, two-held, whole-held, wanted-within, line-counts.
-use mathlib.Core.Bool.{Bool, true, false}
+-- The bytes of a record at the front of a lent list: two are read, and behind them those that these want.
+-- Main results: first-two, held-same; first-counts, first-held, more-wanted, whole-held.
 use mathlib.Core.List.{List, _++_}
+use mathlib.Core.Logic.{_≢_}
 use mathlib.Core.Path.{_≡_, refl, sym, ap, _∙_}
 use Prim.Native.Nat.{ℕ, _+_, _-_, _≤_}
 use native.Mathlib.Omega.{arith}
-use lib.Dec.{leb}
-use lib.ListN.{length, take, drop, length-append}
-use lib.Seq.{length-take-le, length-front}
-use borrow.Author.Tests.{leb-true}
+use lib.ListN.{length, take, drop, length-append, length-drop}
+use lib.Seq.{length-take-le, length-front, take-at}
 use Rattle.io.specs.Counts.{Counts}
 use Rattle.io.proofs.Counting.{counts}
-use Rattle.rules.specs.Record.{recordLength}
-use Rattle.rules.specs.Answer.{Outcome, done, refused, Made, made, refuses, answer}
-use Rattle.record_laws.specs.Width.{record-length-most, record-length-least}
+use Rattle.basics.specs.Cases.{by-eq}
+use Rattle.holding.specs.Wanted.{bytesWanted, wanted-begun, wanted-front, wanted-within}
 
 pub first-two : (xs : List ℕ) → 1280 ≤ length xs → 2 ≡ length (take 2 xs)
 first-two xs h = sym (length-take-le 2 xs (omega arith))
@@ -21,36 +18,44 @@ first-two xs h = sym (length-take-le 2 xs (omega arith))
 pub held-same : (back xs : List ℕ) → length back ≡ length (take 2 xs) → length (back ++ drop 2 xs) ≡ length xs
 held-same back xs e = length-front xs back 2 e
 
--- fewer than two bytes
-pub begun : (n : ℕ) (back xs : List ℕ) → n ≤ length back → Counts n (back ++ drop 2 xs)
-begun n back xs h = counts n (back ++ drop 2 xs) (omega (arith, length-append back (drop 2 xs)))
+pub first-counts : (xs : List ℕ) {got : ℕ} → 1280 ≤ length xs → got ≤ 2 → Counts got xs
+first-counts xs {got} enough few = counts got xs (omega arith)
 
-pub two-held : (back xs : List ℕ) → 1280 ≤ length xs → length back ≡ length (take 2 xs) → Counts 2 (back ++ drop 2 xs)
-two-held back xs h e = counts 2 (back ++ drop 2 xs) (omega (arith, held-same back xs e))
+-- got bytes were read of two, and these want w
+module _ (xs : List ℕ) {got w : ℕ} (enough : 1280 ≤ length xs) (few : got ≤ 2) (wants : w ≡ bytesWanted (take got xs)) where
+  -- no more are wanted
+  pub first-held : w ≡ 2 → Counts got xs × (got ≤ bytesWanted (take got xs))
+  first-held e = (first-counts xs enough few, omega arith)
 
--- two bytes and those read behind them
-pub whole-held : (n k : ℕ) (back xs : List ℕ) → 2 ≤ length xs → n ≤ length back → Counts (2 + n) (take 2 xs ++ (back ++ drop k (drop 2 xs)))
-whole-held n k back xs h l =
-    counts (2 + n) (take 2 xs ++ (back ++ drop k (drop 2 xs)))
-    (omega (arith, length-append (take 2 xs) (back ++ drop k (drop 2 xs)), length-append back (drop k (drop 2 xs)), length-take-le 2 xs h))
+  -- where more are wanted there were two
+  two-read : w ≢ 2 → got ≡ 2
+  two-read d = by-eq got 2 (λ e. e) (λ n. absurd (d (wants ∙ wanted-begun (take got xs) (omega (arith, n, length-take-le got xs (omega arith))))))
 
-pub wanted-within : (wanted n : ℕ) → wanted ≡ recordLength n → n ≤ 1024 → (2 ≤ wanted) × (wanted ≤ 1280)
-wanted-within wanted n e few = (omega (arith, record-length-least n), omega (arith, record-length-most n few))
+  pub more-wanted : (2 ≤ w) × (w ≤ length xs)
+  more-wanted = let h = wanted-within (take got xs) in (omega arith, omega arith)
 
-line-within : (m : Made) (k room : ℕ) → done k ≡ answer m room → k ≤ room
-unfolding answer
-line-within (refuses number place) k room e = absurd (let z : _≡_ {A = ℕ} 0 1 = cc in omega arith)
-line-within (made xs) k room e = go (leb (length xs) room) refl
-  where
-    go : (b : Bool) → leb (length xs) room ≡ b → k ≤ room
-    go true p =
-        let z : done k ≡ done (length xs) = e ∙ rw p in
-        let s : k ≡ length xs = cc in
-        omega (arith, leb-true (length xs) room p)
-    go false p =
-        let z : done k ≡ refused 3 (length xs) = e ∙ rw p in
-        absurd (let y : _≡_ {A = ℕ} 0 1 = cc in omega arith)
+  -- two bytes, and those read behind them
+  pub whole-held : (back : List ℕ) (n : ℕ) → w ≢ 2 → n ≤ length back → length back ≡ length (take (w - 2) (drop 2 xs))
+      → Counts (2 + n) (take 2 xs ++ (back ++ drop (w - 2) (drop 2 xs))) × (2 + n ≤ bytesWanted (take (2 + n) (take 2 xs ++ (back ++ drop (w - 2) (drop 2 xs)))))
+  whole-held back n d l b = (
+    counts (2 + n) ys (omega (arith, length-append (take 2 xs) rest, length-append back (drop (w - 2) (drop 2 xs)), two)),
+    omega (arith, same, more-wanted, b, length-take-le (w - 2) (drop 2 xs) behind),
+  )
+    where
+      rest : List ℕ
+      rest = back ++ drop (w - 2) (drop 2 xs)
 
--- the bytes that a call says it wrote are within the room it had
-pub line-counts : (m : Made) (k : ℕ) (new old : List ℕ) → done k ≡ answer m (length old) → length new ≡ length old → Counts k new
-line-counts m k new old e same = counts k new (omega (arith, line-within m k (length old) e))
+      ys : List ℕ
+      ys = take 2 xs ++ rest
+
+      two : length (take 2 xs) ≡ 2
+      two = length-take-le 2 xs (omega arith)
+
+      behind : w - 2 ≤ length (drop 2 xs)
+      behind = omega (arith, more-wanted, length-drop 2 xs)
+
+      same : bytesWanted (take (2 + n) ys) ≡ w
+      same =
+          wanted-front (2 + n) ys (omega arith) ∙ sym (wanted-front 2 ys (omega arith))
+          ∙ ap bytesWanted (take-at (take 2 xs) rest 2 two ∙ ap (λ (k : ℕ). take k xs) (sym (two-read d)))
+          ∙ sym wants

@@ -1,29 +1,46 @@
 use native.Mathlib.Omega.{arith}
 use borrow.Author.Needs.{needs}
-use Prim.Native.Nat.{_≤_}
+use mathlib.Core.List.{List}
+use Prim.Native.Nat.{ℕ, _≤_}
 use mathlib.Core.Path.{_≡_, refl, sym, ap, _∙_}
-use lib.ListN.{length}
+use lib.ListN.{length, take}
 use Rattle.rules.specs.Answer as answers
-use Rattle.listing.proofs.Held.{line-counts}
+use Rattle.holding.specs.Turn.{Accepted, accepted}
+use Rattle.listing.proofs.Fits.{line-counts}
 use Rattle.listing.proofs.list.Statement.{statement}
 use Rattle.listing.proofs.list.Tie as tie
-use Rattle.listing.proofs.list.Reads as reads
-use Rattle.listing.proofs.list.Lts as lts
-use Rattle.io.proofs.write_all.Reads as write-all-reads
-use Rattle.line.proofs.line.Reads as line-reads
-use Rattle.listing.proofs.read_record.Reads as read-record-reads
-use Rattle.say.proofs.answer.Reads as answer-reads
-use Rattle.say.proofs.byte.Reads as byte-reads
 
 abbrev Inv-loop : tie.InvT-loop
-Inv-loop held₀ out₀ left₀ held out left =
-    (length held ≡ length held₀) × (length out ≡ length out₀) × (1280 ≤ length held) × (12288 ≤ length out)
+Inv-loop held₀ vector₀ out₀ left₀ held vector out left =
+    (length held ≡ length held₀) × (length vector ≡ length vector₀) × (length out ≡ length out₀)
+    × (1280 ≤ length held) × (1024 ≤ length vector) × (10624 ≤ length out)
 
 abbrev μ-loop : tie.MeasureT-loop
-μ-loop held₀ out₀ left₀ held out left = left
+μ-loop held₀ vector₀ out₀ left₀ held vector out left = left
+
+-- the places of a turn that is done, seen from where its answer is taken apart
+abbrev call : tie.After-given Inv-loop μ-loop → tie.After-unpack Inv-loop μ-loop
+call c = c .before .before .before .before
+
+abbrev read : tie.After-given Inv-loop μ-loop → tie.After-read-record Inv-loop μ-loop
+read c = call c .before .before .before .before .before .before
+
+abbrev turn : tie.After-given Inv-loop μ-loop → tie.At-loop Inv-loop μ-loop
+turn c = read c .before .before .before
+
+-- the bytes held
+abbrev bytes : tie.After-given Inv-loop μ-loop → List ℕ
+bytes c = take (read c .read-record .result) (read c .read-record .last .0)
+
+-- their vector
+here : (c : tie.After-given Inv-loop μ-loop) → Accepted (bytes c) (call c .unpack .last .1 .0) (c .given .given .0 .0)
+unfolding answers.reads answers.numberOf
+here c =
+    let said = call c .unpack .ensures in
+    accepted (bytes c) (turn c .loop .vector) _ _ (turn c .loop .inv .4) (ap answers.reads (sym (c .given .given .1)) ∙ said .0) (said .1)
 
 loop-holds : tie.Need-loop-holds Inv-loop μ-loop
-loop-holds c = (refl, refl, c .before .before .pre .0, c .before .before .pre .1)
+loop-holds c = search needs
 
 read-record-requires : tie.Need-read-record-requires Inv-loop μ-loop
 read-record-requires c κs = search needs
@@ -34,17 +51,20 @@ same-length c = search needs
 same-length-2 : tie.Need-same-length-2 Inv-loop μ-loop
 same-length-2 c = search needs
 
+same-length-3 : tie.Need-same-length-3 Inv-loop μ-loop
+same-length-3 c = search needs
+
 returns : tie.Need-returns Inv-loop μ-loop
 returns c = search needs
 
-slice-reshare-prefix-line : tie.Need-slice-reshare-prefix-line Inv-loop μ-loop
-slice-reshare-prefix-line c = search needs
+slice-reshare-prefix-unpack : tie.Need-slice-reshare-prefix-unpack Inv-loop μ-loop
+slice-reshare-prefix-unpack c = search needs
 
-slice-aggregate-line : tie.Need-slice-aggregate-line Inv-loop μ-loop
-slice-aggregate-line c = search needs
+slice-aggregate-unpack : tie.Need-slice-aggregate-unpack Inv-loop μ-loop
+slice-aggregate-unpack c = search needs
 
-line-requires : tie.Need-line-requires Inv-loop μ-loop
-line-requires c κs = search needs
+unpack-requires : tie.Need-unpack-requires Inv-loop μ-loop
+unpack-requires c κs = search needs
 
 enum-known-given : tie.Need-enum-known-given Inv-loop μ-loop
 enum-known-given c = search needs
@@ -58,31 +78,53 @@ answer-requires c κs = search needs
 byte-requires : tie.Need-byte-requires Inv-loop μ-loop
 byte-requires c κs = search needs
 
-same-length-3 : tie.Need-same-length-3 Inv-loop μ-loop
-same-length-3 c = search needs
-
 same-length-4 : tie.Need-same-length-4 Inv-loop μ-loop
 same-length-4 c = search needs
-
-returns-2 : tie.Need-returns-2 Inv-loop μ-loop
-returns-2 c = search needs
-
-slice-reshare-prefix-write-all : tie.Need-slice-reshare-prefix-write-all Inv-loop μ-loop
-unfolding answers.reads answers.numberOf
-slice-reshare-prefix-write-all c = (line-counts _ _ (c .before .before .before .before .before .line .last .1 .0) (c .before .before .before .before .before .before .before .before .before .before .before .before .before .before .loop .out) (ap answers.reads (sym (c .before .given .given .1)) ∙ c .before .before .before .before .before .line .ensures .0) (c .before .before .before .before .before .line .kept .1 .0)) .0
-
-slice-aggregate-write-all : tie.Need-slice-aggregate-write-all Inv-loop μ-loop
-unfolding answers.reads answers.numberOf
-slice-aggregate-write-all c = (line-counts _ _ (c .before .before .before .before .before .before .line .last .1 .0) (c .before .before .before .before .before .before .before .before .before .before .before .before .before .before .before .loop .out) (ap answers.reads (sym (c .before .before .given .given .1)) ∙ c .before .before .before .before .before .before .line .ensures .0) (c .before .before .before .before .before .before .line .kept .1 .0)) .1
-
-write-all-requires : tie.Need-write-all-requires Inv-loop μ-loop
-write-all-requires c κs = search needs
 
 same-length-5 : tie.Need-same-length-5 Inv-loop μ-loop
 same-length-5 c = search needs
 
 same-length-6 : tie.Need-same-length-6 Inv-loop μ-loop
 same-length-6 c = search needs
+
+returns-2 : tie.Need-returns-2 Inv-loop μ-loop
+returns-2 c = search needs
+
+slice-reshare-prefix-write-line : tie.Need-slice-reshare-prefix-write-line Inv-loop μ-loop
+slice-reshare-prefix-write-line c = here (c .before) .within
+
+slice-aggregate-write-line : tie.Need-slice-aggregate-write-line Inv-loop μ-loop
+slice-aggregate-write-line c = here (c .before .before) .count
+
+write-line-requires : tie.Need-write-line-requires Inv-loop μ-loop
+write-line-requires c κs =
+    let done = c .before .before .before in
+    let A = here done in
+    (A .packs .valid, A .packs .few, turn done .loop .inv .5)
+
+slice-reshare-prefix-write-all : tie.Need-slice-reshare-prefix-write-all Inv-loop μ-loop
+slice-reshare-prefix-write-all c =
+    let line = c .before .before in
+    let done = line .before .before .before .before in
+    line-counts _ (here done .packs) (turn done .loop .inv .5) (line .write-line .ensures) .0
+
+slice-aggregate-write-all : tie.Need-slice-aggregate-write-all Inv-loop μ-loop
+slice-aggregate-write-all c =
+    let line = c .before .before .before in
+    let done = line .before .before .before .before in
+    line-counts _ (here done .packs) (turn done .loop .inv .5) (line .write-line .ensures) .1
+
+write-all-requires : tie.Need-write-all-requires Inv-loop μ-loop
+write-all-requires c κs = search needs
+
+same-length-7 : tie.Need-same-length-7 Inv-loop μ-loop
+same-length-7 c = search needs
+
+same-length-8 : tie.Need-same-length-8 Inv-loop μ-loop
+same-length-8 c = search needs
+
+same-length-9 : tie.Need-same-length-9 Inv-loop μ-loop
+same-length-9 c = search needs
 
 returns-3 : tie.Need-returns-3 Inv-loop μ-loop
 returns-3 c = search needs
@@ -96,11 +138,14 @@ loop-less c = search needs
 loop-again : tie.Need-loop-again Inv-loop μ-loop
 loop-again c = search needs
 
-same-length-7 : tie.Need-same-length-7 Inv-loop μ-loop
-same-length-7 c = search needs
+same-length-10 : tie.Need-same-length-10 Inv-loop μ-loop
+same-length-10 c = search needs
 
-same-length-8 : tie.Need-same-length-8 Inv-loop μ-loop
-same-length-8 c = search needs
+same-length-11 : tie.Need-same-length-11 Inv-loop μ-loop
+same-length-11 c = search needs
+
+same-length-12 : tie.Need-same-length-12 Inv-loop μ-loop
+same-length-12 c = search needs
 
 returns-4 : tie.Need-returns-4 Inv-loop μ-loop
 returns-4 c = search needs
@@ -115,26 +160,33 @@ list-spec =
     read-record-requires
     same-length
     same-length-2
+    same-length-3
     returns
-    slice-reshare-prefix-line
-    slice-aggregate-line
-    line-requires
+    slice-reshare-prefix-unpack
+    slice-aggregate-unpack
+    unpack-requires
     enum-known-given
     enum-told
     answer-requires
     byte-requires
-    same-length-3
     same-length-4
+    same-length-5
+    same-length-6
     returns-2
+    slice-reshare-prefix-write-line
+    slice-aggregate-write-line
+    write-line-requires
     slice-reshare-prefix-write-all
     slice-aggregate-write-all
     write-all-requires
-    same-length-5
-    same-length-6
+    same-length-7
+    same-length-8
+    same-length-9
     returns-3
     sub-left
     loop-less
     loop-again
-    same-length-7
-    same-length-8
+    same-length-10
+    same-length-11
+    same-length-12
     returns-4)

@@ -1,16 +1,22 @@
+-- `read_record` meets its contract: two bytes are read, and then those that they want.
 use native.Mathlib.Omega.{arith}
 use borrow.Author.Needs.{needs}
-use mathlib.Core.List.{_++_}
-use Prim.Native.Nat.{_-_}
-use lib.ListN.{drop}
-use Rattle.listing.proofs.Held.{first-two, held-same, begun, two-held, whole-held, wanted-within}
+use mathlib.Core.List.{List, _++_}
+use Prim.Native.Nat.{ℕ, _≤_, _-_}
+use lib.ListN.{length, drop}
+use Rattle.listing.proofs.Held.{first-two, held-same, first-counts, first-held, more-wanted, whole-held}
 use Rattle.listing.proofs.read_record.Statement.{statement}
 use Rattle.listing.proofs.read_record.Tie as tie
-use Rattle.listing.proofs.read_record.Reads as reads
-use Rattle.listing.proofs.read_record.Lts as lts
-use Rattle.io.proofs.read_full.Reads as read-full-reads
-use Rattle.record.proofs.leaf_count.Reads as leaf-count-reads
-use Rattle.record.proofs.record_length.Reads as record-length-reads
+
+-- what is held when two bytes were read, and how many there are
+abbrev two : tie.After-read-full → List ℕ
+two c = c .read-full .last .1 .0 ++ drop 2 (c .before .before .before .args .held .now)
+
+enough : (c : tie.After-read-full) → 1280 ≤ length (two c)
+enough c = omega (arith, held-same (c .read-full .last .1 .0) (c .before .before .before .args .held .now) (c .read-full .kept .1 .0), c .before .before .before .pre)
+
+few : (c : tie.After-read-full) → c .read-full .result ≤ 2
+few c = omega (arith, c .read-full .ensures .0, c .read-full .kept .1 .0, first-two (c .before .before .before .args .held .now) (c .before .before .before .pre))
 
 slice-relend-prefix-read-full : tie.Need-slice-relend-prefix-read-full
 slice-relend-prefix-read-full c = search needs
@@ -21,38 +27,41 @@ slice-aggregate-read-full c = first-two (c .before .before .args .held .now) (c 
 read-full-requires : tie.Need-read-full-requires
 read-full-requires c κs = search needs
 
+slice-reshare-prefix-bytes-wanted : tie.Need-slice-reshare-prefix-bytes-wanted
+slice-reshare-prefix-bytes-wanted c = let r = c .before .before in first-counts (two r) (enough r) (few r) .0
+
+slice-aggregate-bytes-wanted : tie.Need-slice-aggregate-bytes-wanted
+slice-aggregate-bytes-wanted c = let r = c .before .before .before in first-counts (two r) (enough r) (few r) .1
+
+bytes-wanted-requires : tie.Need-bytes-wanted-requires
+bytes-wanted-requires c κs = search needs
+
 same-length : tie.Need-same-length
 same-length c = search needs
 
 returns : tie.Need-returns
-returns c = begun _ (c .before .before .before .read-full .last .1 .0) (c .before .before .before .before .before .before .args .held .now) (c .before .before .before .read-full .ensures .0)
-
-leaf-count-requires : tie.Need-leaf-count-requires
-leaf-count-requires c κs = search needs
-
-same-length-2 : tie.Need-same-length-2
-same-length-2 c = search needs
-
-returns-2 : tie.Need-returns-2
-returns-2 c = two-held (c .before .before .before .before .before .before .read-full .last .1 .0) (c .before .before .before .before .before .before .before .before .before .args .held .now) (c .before .before .before .before .before .before .before .before .before .pre) (c .before .before .before .before .before .before .read-full .kept .1 .0)
-
-same-length-3 : tie.Need-same-length-3
-same-length-3 c = search needs
-
-returns-3 : tie.Need-returns-3
-returns-3 c = two-held (c .before .before .before .before .before .before .before .read-full .last .1 .0) (c .before .before .before .before .before .before .before .before .before .before .args .held .now) (c .before .before .before .before .before .before .before .before .before .before .pre) (c .before .before .before .before .before .before .before .read-full .kept .1 .0)
-
-record-length-requires : tie.Need-record-length-requires
-record-length-requires c κs = search needs
+returns c =
+    let wanted = c .before in
+    let r = wanted .before .before .before .before in
+    first-held (two r) (enough r) (few r) (wanted .bytes-wanted .ensures) (c .if1 .taken)
 
 sub-read-full : tie.Need-sub-read-full
-sub-read-full c = (wanted-within _ _ (c .record-length .ensures) (c .before .if3 .left)) .0
+sub-read-full c =
+    let wanted = c .before in
+    let r = wanted .before .before .before .before in
+    more-wanted (two r) (enough r) (few r) (wanted .bytes-wanted .ensures) .0
 
 part-read-full-start : tie.Need-part-read-full-start
-part-read-full-start c = (wanted-within _ _ (c .record-length .ensures) (c .before .if3 .left)) .0
+part-read-full-start c =
+    let wanted = c .before in
+    let r = wanted .before .before .before .before in
+    more-wanted (two r) (enough r) (few r) (wanted .bytes-wanted .ensures) .0
 
 part-read-full-end : tie.Need-part-read-full-end
-part-read-full-end c = omega (arith, (wanted-within _ _ (c .record-length .ensures) (c .before .if3 .left)) .1, c .before .before .before .before .before .before .before .before .before .before .before .pre, held-same (c .before .before .before .before .before .before .before .before .read-full .last .1 .0) (c .before .before .before .before .before .before .before .before .before .before .before .args .held .now) (c .before .before .before .before .before .before .before .before .read-full .kept .1 .0))
+part-read-full-end c =
+    let wanted = c .before in
+    let r = wanted .before .before .before .before in
+    more-wanted (two r) (enough r) (few r) (wanted .bytes-wanted .ensures) .1
 
 read-full-requires-2 : tie.Need-read-full-requires-2
 read-full-requires-2 c κs = search needs
@@ -60,12 +69,16 @@ read-full-requires-2 c κs = search needs
 add-result : tie.Need-add-result
 add-result c = search needs
 
-same-length-4 : tie.Need-same-length-4
-same-length-4 c = search needs
+same-length-2 : tie.Need-same-length-2
+same-length-2 c = search needs
 
-returns-4 : tie.Need-returns-4
-returns-4 c = whole-held _ (c .before .before .before .before .record-length .result - 2) (c .before .before .read-full2 .last .1 .0) ((c .before .before .before .before .before .before .before .before .before .before .before .before .read-full .last .1 .0) ++ drop 2 (c .before .before .before .before .before .before .before .before .before .before .before .before .before .before .before .args .held .now))
-    (two-held (c .before .before .before .before .before .before .before .before .before .before .before .before .read-full .last .1 .0) (c .before .before .before .before .before .before .before .before .before .before .before .before .before .before .before .args .held .now) (c .before .before .before .before .before .before .before .before .before .before .before .before .before .before .before .pre) (c .before .before .before .before .before .before .before .before .before .before .before .before .read-full .kept .1 .0) .0) (c .before .before .read-full2 .ensures .0)
+returns-2 : tie.Need-returns-2
+returns-2 c =
+    let more = c .before .before in
+    let wanted = more .before .before .before in
+    let r = wanted .before .before .before .before in
+    whole-held (two r) (enough r) (few r) (wanted .bytes-wanted .ensures) (more .read-full2 .last .1 .0) _
+    (more .before .before .if1 .left) (more .read-full2 .ensures .0) (more .read-full2 .kept .1 .0)
 
 pub read-record-spec : {M : Type 1} → statement M
 read-record-spec =
@@ -74,18 +87,15 @@ read-record-spec =
     slice-relend-prefix-read-full
     slice-aggregate-read-full
     read-full-requires
+    slice-reshare-prefix-bytes-wanted
+    slice-aggregate-bytes-wanted
+    bytes-wanted-requires
     same-length
     returns
-    leaf-count-requires
-    same-length-2
-    returns-2
-    same-length-3
-    returns-3
-    record-length-requires
     sub-read-full
     part-read-full-start
     part-read-full-end
     read-full-requires-2
     add-result
-    same-length-4
-    returns-4)
+    same-length-2
+    returns-2)
