@@ -1,5 +1,5 @@
 -- The listing program: what it writes for its input.
--- Main definitions: lineOf, refusedLine, lineFor, listing.
+-- Main definitions: lineOf, refusedLine, lineFor, firstRecord, listing, mostRecords, listingOf.
 use mathlib.Core.List.{List, [], _∷_, _++_}
 use Prim.Native.Nat.{ℕ, zero, suc}
 use lib.Dec.{ltb}
@@ -61,3 +61,12 @@ listing zero s = []
 listing (suc k) [] = []
 listing (suc k) (b ∷ s) =
     lines (then (firstRecord (b ∷ s)) lineFor) (listing k (drop (recordLength (leafCount (b ∷ s))) (b ∷ s)))
+
+-- "up to 4,294,967,295 of them; it looks no further"
+abbrev pub mostRecords : ℕ
+mostRecords = 4294967295
+
+-- what the program writes for its input
+unfoldable pub listingOf : List ℕ → List ℕ
+unfolding listing
+listingOf s = listing mostRecords s
