@@ -1,12 +1,12 @@
--- The tree of a table that is written is the tree that its merges build.
--- Main results: rows-grow, table-tree, pairs-tree.
-use mathlib.Core.Path.{_≡_, refl, ap₂}
+-- The tree of a table that is written is the tree that its merges build, and its rows are the merges in their order.
+-- Main results: row-clusters, rows-grow, table-tree, pairs-tree.
+use mathlib.Core.Path.{_≡_, refl, ap₂, _∙_}
 use mathlib.Core.Bool.{Bool, true, false, cond}
 use mathlib.Core.List.{List, [], _∷_}
-use Prim.Native.Nat.{ℕ, suc, _+_, _-_, _<_}
+use Prim.Native.Nat.{ℕ, zero, suc, _+_, _-_, _<_}
 use native.Mathlib.Omega.{arith}
 use lib.Dec.{eqb}
-use lib.ListN.{length}
+use lib.ListN.{length, take, getD}
 use borrow.Author.Tests.{eqb-true, eq-eqb, ne-eqb}
 use Rattle.rules.specs.Vector.{entry, Valid}
 use Rattle.rules.specs.Building.{Merge}
@@ -15,7 +15,7 @@ use Rattle.rules.specs.Table.{rowsFrom, nodesOf, tableTree}
 use Rattle.merging.specs.Insertion.{valid-bounded, pairsOf, pairs, pairs-count}
 use Rattle.merging.specs.Greedy.{Under, under-pairs}
 use Rattle.merging.specs.Named.{named, Good, good, smaller-named, larger-named, still-named, named-below}
-use Rattle.table_laws.specs.Nodes.{noded}
+use Rattle.table_laws.specs.Nodes.{CountUp, noded, nodes-keep}
 use Rattle.table_laws.specs.Rows.{renumber, renumber-below, rows-length}
 
 -- Each name that is left has a node below p, and the node's tree is the cluster's; where no merge is left, 0 has the last node.
@@ -45,6 +45,25 @@ same-next m P p number C D G S = record {
     tree′ x h true q = rw (eq-eqb p p refl) (ap₂ node (S .tree (m .0) (smaller-named m P G)) (S .tree (m .1) (larger-named m P)))
     tree′ x h false q = rw (ne-eqb (number x) p (λ e. omega (arith, old x h))) (S .tree x (still-named m P x h))
 
+rows-count-up : (p : ℕ) (number : ℕ → ℕ) (P : List Merge) → CountUp p (rowsFrom p number P)
+unfolding CountUp rowsFrom
+rows-count-up p number [] = tt
+rows-count-up p number (m ∷ P) = (refl, rows-count-up (p + 1) (renumber number (m .0) p) P)
+
+-- the children of row t are the two clusters of merge t, as they are after the merges before it
+pub row-clusters : (P : List Merge) (p : ℕ) (number : ℕ → ℕ) (C D : Clusters) → Good P → Same P p number C D → (t : ℕ) → t < length P
+    → (nodesOf (rowsFrom p number P) C (getD (rowsFrom p number P) t (0, 0, 0) .0) ≡ grown (take t P) D (getD P t (0, 0) .0))
+    × (nodesOf (rowsFrom p number P) C (getD (rowsFrom p number P) t (0, 0, 0) .1) ≡ grown (take t P) D (getD P t (0, 0) .1))
+unfolding rowsFrom grown nodesOf Good
+row-clusters [] p number C D G S t h = absurd (omega arith)
+row-clusters (m ∷ P) p number C D G S zero h = (child (m .0) (smaller-named m P G), child (m .1) (larger-named m P))
+  where
+    child : (x : ℕ) → named (m ∷ P) x ≡ true → nodesOf (rowsFrom p number (m ∷ P)) C (number x) ≡ D x
+    child x e = nodes-keep p (rowsFrom p number (m ∷ P)) C (number x) (rows-count-up p number (m ∷ P)) (S .below x e) ∙ S .tree x e
+row-clusters (m ∷ P) p number C D G S (suc t) h =
+    row-clusters P (p + 1) (renumber number (m .0) p) (noded C (number (m .0), number (m .1), p)) (joined m D) (G .2)
+    (same-next m P p number C D G S) t (omega arith)
+
 -- the last row's node is the one cluster that is left
 pub rows-grow : (P : List Merge) (p : ℕ) (number : ℕ → ℕ) (C D : Clusters) → Good P → Same P p number C D → nodesOf (rowsFrom p number P) C (p + length P - 1) ≡ grown P D 0
 unfolding nodesOf rowsFrom grown Good named
@@ -56,15 +75,13 @@ rows-grow (m ∷ P) p number C D G S =
     rw z
     (rows-grow P (p + 1) (renumber number (m .0) p) (noded C (number (m .0), number (m .1), p)) (joined m D) (G .2) (same-next m P p number C D G S))
 
+-- before the first row each name is its own node
+pub same-start : (n : ℕ) (P : List Merge) → suc (length P) ≡ n → Under n P → Same P n (λ c. c) leaf leaf
+same-start n P e u = record { below = named-below n P (omega arith) u; tree = λ x h. refl; last = λ h. omega arith }
+
 pub table-tree : (n : ℕ) (P : List Merge) → suc (length P) ≡ n → Under n P → Good P → tableTree n (rowsFrom n (λ c. c) P) ≡ grown P leaf 0
 unfolding tableTree
-table-tree n P e u G =
-    rw (rows-length n (λ c. c) P)
-    (rows-grow P n (λ c. c) leaf leaf G (record {
-      below = named-below n P (omega arith) u;
-      tree = λ x h. refl;
-      last = λ h. omega arith;
-    }))
+table-tree n P e u G = rw (rows-length n (λ c. c) P) (rows-grow P n (λ c. c) leaf leaf G (same-start n P e u))
 
 -- the tree of a vector's table
 pub pairs-tree : (v : List ℕ) → Valid v → tableTree (length v) (rowsFrom (length v) (λ c. c) (pairs v)) ≡ grown (pairs v) leaf 0
