@@ -53,6 +53,9 @@ pub mod LawShuffle
 pub mod LawRelabel
 pub mod Calls
 pub mod DemandOne
+pub mod Relabelled
+pub mod WrittenTable
+pub mod WrittenText
 pub mod DemandTwo
 pub mod Leads
 pub mod DemandThree
