@@ -5,17 +5,17 @@ use mathlib.Core.List.{List, []}
 use mathlib.Core.Logic.{_⊎_, inl, inr, _↔_}
 use mathlib.Core.Option.{none}
 use mathlib.Core.Path.{_≡_, refl, ap, _∙_, subst}
-use Prim.Native.Nat.{ℕ, suc, _≤_}
+use Prim.Native.Nat.{ℕ, _≤_}
 use native.Mathlib.Omega.{arith}
 use lib.ListN.{length}
 use Rattle.rules.specs.declared.Answer.{Answer}
 use Rattle.rules.specs.Vector.{Valid}
-use Rattle.rules.specs.Building.{merges}
 use Rattle.rules.specs.Tree.{treeOf}
 use Rattle.rules.specs.Order.{vectorOf}
-use Rattle.rules.specs.Table.{rowsFrom, tableRows, tableOf, rowsOf}
-use Rattle.rules.specs.Newick.{textOf, Text, labelsOf, labelFault}
+use Rattle.rules.specs.Table.{tableOf, rowsOf}
+use Rattle.rules.specs.Newick.{textOf, labelsOf, labelFault}
 use Rattle.rules.specs.Record.{recordOf}
+use Rattle.rules.specs.Shuffle.{renamed, newOf}
 use Rattle.rules.specs.Answer.{done, reads, made}
 use Rattle.rules.specs.CallCheck.{check}
 use Rattle.rules.specs.CallToTable.{toTable}
@@ -24,16 +24,10 @@ use Rattle.rules.specs.CallToNewick.{toText}
 use Rattle.rules.specs.CallFromNewick.{FromText, reads-as}
 use Rattle.rules.specs.CallPack.{pack}
 use Rattle.rules.specs.CallUnpack.{unpack}
-use Rattle.building.specs.InOrder.{merges-in-order}
-use Rattle.building.specs.Built.{merges-length}
-use Rattle.table_laws.specs.Flat.{rowsOf-flat}
-use Rattle.table_laws.specs.Accepted.{table-accepted}
-use Rattle.table_laws.specs.Grown.{table-tree}
 use Rattle.record_laws.specs.Inverse.{unpack-record}
-use Rattle.grammar.specs.Written.{leaves-text}
 use Rattle.grammar.specs.Faults.{leaves-no-fault, leaves-count}
 use Rattle.grammar.specs.Length.{text-length, text-length-most}
-use Rattle.laws.specs.TreeOf.{tree-leaves, tree-form, vector-again}
+use Rattle.laws.specs.TreeOf.{tree-leaves, vector-again}
 use Rattle.laws.specs.FromTable.{rows-accepted}
 use Rattle.demands.specs.Given.{CountRight, WithinBounds}
 use Rattle.demands.specs.Law.{made-accepted, done-written}
@@ -41,8 +35,11 @@ use Rattle.demands.specs.LawVector.{VectorRefused, vector-cases, vector-
 use Rattle.demands.specs.LawCheck.{lawful-check}
 use Rattle.demands.specs.LawFromNewick.{labels-fit}
 use Rattle.demands.specs.Long.{table-long}
-use Rattle.demands.specs.Calls.{Public, to-table, from-table, to-newick, from-newick, packs, unpacks, the, Lent, Kept}
+use Rattle.demands.specs.Calls.{Public, to-table, from-table, to-newick, from-newick, packs, unpacks, shuffles, relabels, the, Lent, Kept}
 use Rattle.demands.specs.DemandOne.{room}
+use Rattle.demands.specs.Relabelled.{Permutation, Relabelled, relabelled, relabel-makes, Shuffled, shuffled, shuffle-makes}
+use Rattle.demands.specs.WrittenTable.{WrittenTable, written-table}
+use Rattle.demands.specs.WrittenText.{WrittenText, written-text}
 
 -- the vectors that the demand is about
 pub record Vector (v : List ℕ) : Type 0 where
@@ -59,40 +56,31 @@ accepted-exactly v = (λ e. go e (vector-cases v), λ W. vector-passes {W = Unit
     go e (inr h) = record { valid = vector-valid v (h .0) (h .1); few = h .0 .1 }
 
 -- what each notation of a vector is
-makes-table : (v : List ℕ) → Vector v → toTable v ≡ made (tableOf v)
+pub makes-table : (v : List ℕ) → Vector v → toTable v ≡ made (tableOf v)
 unfolding toTable
 makes-table v W = vector-passes v (made (tableOf v)) (W .valid .some-leaf, W .few) (W .valid .bounded)
 
-makes-text : (v : List ℕ) → Vector v → toText v ≡ made (textOf (treeOf v))
+pub makes-text : (v : List ℕ) → Vector v → toText v ≡ made (textOf (treeOf v))
 unfolding toText
 makes-text v W = vector-passes v (made (textOf (treeOf v))) (W .valid .some-leaf, W .few) (W .valid .bounded)
 
-makes-record : (v : List ℕ) → Vector v → pack v ≡ made (recordOf v)
+pub makes-record : (v : List ℕ) → Vector v → pack v ≡ made (recordOf v)
 unfolding pack
 makes-record v W = vector-passes v (made (recordOf v)) (W .valid .some-leaf, W .few) (W .valid .bounded)
 
 -- a written table is accepted, and its tree is that of the vector
-rows-again : (v : List ℕ) → rowsOf (tableOf v) ≡ rowsFrom (length v) (λ c. c) (merges v)
-unfolding tableOf tableRows
-rows-again v = rowsOf-flat (rowsFrom (length v) (λ c. c) (merges v))
-
 pub table-back : (v : List ℕ) → Vector v → fromTable (length v) (tableOf v) ≡ made v
-unfolding treeOf
 table-back v W =
-    let O = merges-in-order v (W .valid) in
-    let l = W .valid .some-leaf in
-    let e : suc (length (merges v)) ≡ length v = omega (arith, merges-length v (W .valid)) in
-    let a = table-accepted (length v) (merges v) l (O .of-leaves) (O .of-clusters) in
-    let t = table-tree (length v) (merges v) e (O .of-leaves) (O .of-clusters) in
-    rows-accepted (length v) (tableOf v) l (W .few) (table-long v (W .valid)) (rw (rows-again v) a)
-    ∙ ap made (ap vectorOf (rw (rows-again v) t) ∙ vector-again v (W .valid))
+    let T = written-table v (W .valid) in
+    rows-accepted (length v) (tableOf v) (W .valid .some-leaf) (W .few) (table-long v (W .valid)) (T .accepted)
+    ∙ ap made (ap vectorOf (T .of-the-tree) ∙ vector-again v (W .valid))
 
 -- a written text reads as the tree: each pair stands as it is written
 pub text-back : (v : List ℕ) → Vector v → FromText (textOf (treeOf v)) (made v)
 text-back v W =
     let L = tree-leaves v (W .valid) in
     let few = W .few in
-    let T : Text (textOf (treeOf v)) (treeOf v) = subst (Text (textOf (treeOf v))) (tree-form v (W .valid)) (leaves-text (length v) (treeOf v) L (W .few)) in
+    let T = written-text v (W .valid) (W .few) .reads-as-the-tree in
     let n : length (labelsOf (textOf (treeOf v))) ≡ length v = leaves-count (length v) T L in
     let fit : labelFault (length (labelsOf (textOf (treeOf v)))) [] (labelsOf (textOf (treeOf v))) ≡ none = rw n (leaves-no-fault (length v) T L) in
     let short : length (textOf (treeOf v)) ≤ 6056 = omega (arith, text-length (length v) (treeOf v) L, text-length-most (length v) few) in
@@ -110,24 +98,36 @@ Writes c x = (old new : Lent c) (a : Answer) → Kept c old a new → the c .cal
 pub writes : (c : Public) (x : the c .Written) → the c .call .Makes (made x) → Writes c x
 writes c x h old new a K l = done-written (the c .call) (the c .Wrong) (the c .wanted) (the c .law) x h old a new K l
 
--- the notations of a vector's tree, each of them turned back
+-- the notations of a vector's tree, what table and text are, each notation turned back, and the tree with its leaves renamed
 pub record Notations (v : List ℕ) : Type 0 where
   pub table-written : Writes (to-table v) (tableOf v)
+  pub table-of-the-tree : WrittenTable v (rowsOf (tableOf v))
   pub text-written : Writes (to-newick v) (textOf (treeOf v))
+  pub text-of-the-tree : WrittenText v (textOf (treeOf v))
   pub record-written : Writes (packs v) (recordOf v)
   pub table-turned-back : Writes (from-table (length v) (tableOf v)) v
   pub text-turned-back : Writes (from-newick (textOf (treeOf v))) v
   pub record-turned-back : Writes (unpacks (recordOf v)) v
   pub tree-turned-back : vectorOf (treeOf v) ≡ v
+  pub relabelled-written : (p : List ℕ) → Permutation (length v) p → Writes (relabels v p) (vectorOf (renamed p (treeOf v)))
+  pub relabelled-tree : (p : List ℕ) → Permutation (length v) p → Relabelled v p (vectorOf (renamed p (treeOf v)))
+  pub shuffled-written : Writes (shuffles v) (newOf (treeOf v), vectorOf (renamed (newOf (treeOf v)) (treeOf v)))
+  pub shuffled-tree : Shuffled v (newOf (treeOf v)) (vectorOf (renamed (newOf (treeOf v)) (treeOf v)))
 
 -- for every valid vector of 1 to 1,024 entries
 pub demand-two : (v : List ℕ) → Vector v → Notations v
 demand-two v W = record {
   table-written = writes (to-table v) (tableOf v) (makes-table v W);
+  table-of-the-tree = written-table v (W .valid);
   text-written = writes (to-newick v) (textOf (treeOf v)) (makes-text v W);
+  text-of-the-tree = written-text v (W .valid) (W .few);
   record-written = writes (packs v) (recordOf v) (makes-record v W);
   table-turned-back = writes (from-table (length v) (tableOf v)) v (table-back v W);
   text-turned-back = writes (from-newick (textOf (treeOf v))) v (text-back v W);
   record-turned-back = writes (unpacks (recordOf v)) v (record-back v W);
   tree-turned-back = vector-again v (W .valid);
+  relabelled-written = λ p P. writes (relabels v p) _ (relabel-makes v p (W .valid) (W .few) P);
+  relabelled-tree = λ p P. relabelled v p (W .valid) P;
+  shuffled-written = writes (shuffles v) _ (shuffle-makes v (W .valid) (W .few));
+  shuffled-tree = shuffled v (W .valid);
 }
