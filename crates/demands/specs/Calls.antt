@@ -1,6 +1,6 @@
--- The public calls. A new call adds a line to each of the two lists here; what it makes stands in its file of rules (Call*), when it refuses
+-- The public calls. A new call adds a line to each of the lists here; what it makes stands in its file of rules (Call*), when it refuses
 -- in its file here (Law*).
--- Main definitions: Public, the, Lent, Kept.
+-- Main definitions: Name, Public, the, Lent, Kept.
 use mathlib.Core.List.{List}
 use Prim.Native.Nat.{ℕ, _-_, _*_}
 use lib.ListN.{length}
@@ -19,6 +19,7 @@ use Rattle.rules.specs.CallUnpack.{unpack-call}
 use Rattle.rules.specs.CallShuffle.{shuffle-call}
 use Rattle.rules.specs.CallRelabel.{relabel-call}
 use Rattle.demands.specs.Law.{Lawful}
+use Rattle.demands.specs.Shapes.{Shape, no-buffer, one-buffer, two-buffers}
 use Rattle.demands.specs.LawVector.{VectorRefused}
 use Rattle.demands.specs.LawCheck.{lawful-check}
 use Rattle.demands.specs.LawToTable.{lawful-to-table}
@@ -29,6 +30,18 @@ use Rattle.demands.specs.LawPack.{lawful-pack}
 use Rattle.demands.specs.LawUnpack.{RecordRefused, lawful-unpack}
 use Rattle.demands.specs.LawShuffle.{lawful-shuffle}
 use Rattle.demands.specs.LawRelabel.{RelabelRefused, lawful-relabel}
+
+-- the public calls
+pub data Name : Type 0 where
+  Check : Name
+  ToTable : Name
+  FromTable : Name
+  ToNewick : Name
+  FromNewick : Name
+  Pack : Name
+  Unpack : Name
+  Shuffle : Name
+  Relabel : Name
 
 -- a public call on an input
 pub data Public : Type 0 where
@@ -42,28 +55,31 @@ pub data Public : Type 0 where
   shuffles : List ℕ → Public
   relabels : List ℕ → List ℕ → Public
 
--- a call; when it refuses its input, with which number and place; how many elements it writes; and that this is so
+-- a call, its name and its buffers; when it refuses its input, with which number and place; how many elements it writes; and that this is so
 pub record Known : Type 1 where
+  pub name : Name
   pub Lent : Type 0
   pub Written : Type 0
   pub call : Call Lent Written
+  pub shape : Shape (call .buffers)
   pub Wrong : ℕ → ℕ → Type 0
   pub wanted : ℕ
   pub law : Lawful call Wrong wanted
 
-abbrev known : {L W : Type 0} (c : Call L W) (Wrong : ℕ → ℕ → Type 0) (wanted : ℕ) → Lawful c Wrong wanted → Known
-known {L} {W} c Wrong wanted T = record { Lent = L; Written = W; call = c; Wrong = Wrong; wanted = wanted; law = T }
+abbrev known : {L W : Type 0} → Name → (c : Call L W) → Shape (c .buffers) → (Wrong : ℕ → ℕ → Type 0) (wanted : ℕ) → Lawful c Wrong wanted → Known
+known {L} {W} k c B Wrong wanted T =
+    record { name = k; Lent = L; Written = W; call = c; shape = B; Wrong = Wrong; wanted = wanted; law = T }
 
 abbrev pub the : Public → Known
-the (checks v) = known (check-call v) (VectorRefused v) 0 (lawful-check v)
-the (to-table v) = known (to-table-call v) (VectorRefused v) (3 * (length v - 1)) (lawful-to-table v)
-the (from-table n xs) = known (from-table-call n xs) (TableRefused n xs) n (lawful-from-table n xs)
-the (to-newick v) = known (to-newick-call v) (VectorRefused v) (length (textOf (treeOf v))) (lawful-to-newick v)
-the (from-newick s) = known (from-newick-call s) (TextRefused s) (length (labelsOf s)) (lawful-from-newick s)
-the (packs v) = known (pack-call v) (VectorRefused v) (recordLength (length v)) (lawful-pack v)
-the (unpacks s) = known (unpack-call s) (RecordRefused s) (leafCount s) (lawful-unpack s)
-the (shuffles v) = known (shuffle-call v) (VectorRefused v) (length v) (lawful-shuffle v)
-the (relabels v p) = known (relabel-call v p) (RelabelRefused v p) (length v) (lawful-relabel v p)
+the (checks v) = known Check (check-call v) no-buffer (VectorRefused v) 0 (lawful-check v)
+the (to-table v) = known ToTable (to-table-call v) one-buffer (VectorRefused v) (3 * (length v - 1)) (lawful-to-table v)
+the (from-table n xs) = known FromTable (from-table-call n xs) one-buffer (TableRefused n xs) n (lawful-from-table n xs)
+the (to-newick v) = known ToNewick (to-newick-call v) one-buffer (VectorRefused v) (length (textOf (treeOf v))) (lawful-to-newick v)
+the (from-newick s) = known FromNewick (from-newick-call s) one-buffer (TextRefused s) (length (labelsOf s)) (lawful-from-newick s)
+the (packs v) = known Pack (pack-call v) one-buffer (VectorRefused v) (recordLength (length v)) (lawful-pack v)
+the (unpacks s) = known Unpack (unpack-call s) one-buffer (RecordRefused s) (leafCount s) (lawful-unpack s)
+the (shuffles v) = known Shuffle (shuffle-call v) two-buffers (VectorRefused v) (length v) (lawful-shuffle v)
+the (relabels v p) = known Relabel (relabel-call v p) one-buffer (RelabelRefused v p) (length v) (lawful-relabel v p)
 
 -- the buffers that are lent to a call
 abbrev pub Lent : Public → Type 0

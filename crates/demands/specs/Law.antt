@@ -221,17 +221,18 @@ module _ {L W : Type 0} (c : Call L W) (Wrong : ℕ → ℕ → Type 0) (wanted 
       let t = le-leb (c .buffers .count x) (c .buffers .room old) l in
       (P .answered ∙ rw (e, t), P .held ∙ rw (e, t))
 
-  -- where the call is done, something is made, and it stands in the buffers
+  -- where the call is done, something is made, it stands in the buffers, and the answer counts its elements
   pub done-made : (old : L) (a : Answer) (new : L) → Keeps c old a new → (k : ℕ) → reads a ≡ done k
-      → (x : W) × c .Makes (made x) × (new ≡ c .buffers .write x old)
+      → (x : W) × c .Makes (made x) × (new ≡ c .buffers .write x old) × (k ≡ c .buffers .count x)
   unfolding answers holds
   done-made old a new P k e = go (P .what) (P .made-so) (sym (P .answered) ∙ e) (P .held)
     where
-      go : (m : Making W) → c .Makes m → answers c m old ≡ done k → new ≡ holds c m old → (x : W) × c .Makes (made x) × (new ≡ c .buffers .write x old)
+      go : (m : Making W) → c .Makes m → answers c m old ≡ done k → new ≡ holds c m old
+          → (x : W) × c .Makes (made x) × (new ≡ c .buffers .write x old) × (k ≡ c .buffers .count x)
       go (refuses l q) M e h = absurd (done-not-refused _ _ _ (sym e))
       go (made x) M e h = at (room-cases (c .buffers .count x) (c .buffers .room old))
         where
           at : (c .buffers .count x ≤ c .buffers .room old) ⊎ (c .buffers .room old < c .buffers .count x)
-              → (y : W) × c .Makes (made y) × (new ≡ c .buffers .write y old)
-          at (inl l) = (x, M, rw (le-leb (c .buffers .count x) (c .buffers .room old) l) at h)
+              → (y : W) × c .Makes (made y) × (new ≡ c .buffers .write y old) × (k ≡ c .buffers .count y)
+          at (inl l) = let t = le-leb (c .buffers .count x) (c .buffers .room old) l in (x, M, rw t at h, sym (done-same (rw t at e)))
           at (inr l) = absurd (done-not-refused _ _ _ (sym (rw (lt-leb (c .buffers .count x) (c .buffers .room old) l) at e)))

@@ -53,9 +53,9 @@ Fits (packed s) w old = length w ≤ length old
 pub done-leads : (a : Input) (old new : Lent (callOf a)) (r : Answer) → Kept (callOf a) old r new → (count : ℕ) → reads r ≡ done count
     → (w : List ℕ) × Leads a w × Stands a w old new
 done-leads (vector v) old new r K k e = let g = done-made _ _ _ (the (checks v) .law) old r new K k e in (v, (g .1, refl), refl)
-done-leads (table n xs) old new r K k e = done-made _ _ _ (the (from-table n xs) .law) old r new K k e
-done-leads (text s) old new r K k e = done-made _ _ _ (the (from-newick s) .law) old r new K k e
-done-leads (packed s) old new r K k e = done-made _ _ _ (the (unpacks s) .law) old r new K k e
+done-leads (table n xs) old new r K k e = let g = done-made _ _ _ (the (from-table n xs) .law) old r new K k e in (g .0, g .1, g .2)
+done-leads (text s) old new r K k e = let g = done-made _ _ _ (the (from-newick s) .law) old r new K k e in (g .0, g .1, g .2)
+done-leads (packed s) old new r K k e = let g = done-made _ _ _ (the (unpacks s) .law) old r new K k e in (g .0, g .1, g .2)
 
 -- and to an accepted input the public call answers done where there is room, and leaves the vector in the buffer
 pub leads-done : (a : Input) (w : List ℕ) (old new : Lent (callOf a)) (r : Answer) → Leads a w → Kept (callOf a) old r new → Fits a w old

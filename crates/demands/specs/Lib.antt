@@ -1,28 +1,35 @@
 -- The three demands, each sentence with the theorem that answers it. Everything here is stated over the definitions of the crate `rules` and
--- over the public promises (Promise), never over code.
+-- over the promises of the public calls that stand there, never over code; the crate `tie` has the functions under these same promises.
 --
--- The promise. Call has the nine calls, each with its input; Lent the buffers lent to each. Promise c old a new says that the answer a reads as
--- `answer` gives it, and that every lent buffer holds afterwards what `after` says, of what the call makes of its input (rules, Calls).
+-- The promise. rules, Promise.Keeps c old a new: the answer a, and what the lent buffers hold afterwards, are those that what the call c makes of
+-- its input (rules, Call*) and the room lent give. Calls.Public has the nine calls, each with its input; Lent the buffers lent to each (Shapes);
+-- Kept its promise.
 --
 -- Demand 1. "Every input gets a finished answer;"
 --     DemandOne.every-input-answered: for every input and all lent buffers one answer, and one thing that the buffers then hold, meet the promise,
 --     and no others do; promise-unique: two results that meet it are equal. An answer is done or refused: done-or-refused.
 -- "a refusal carries its number and place from the table,"
---     DemandOne.refused-exactly: a call refuses with a number and a place exactly when the condition holds that Given states in 01's words.
---     Given has a line for each number and each kind of input, in 01's order: VectorRefused (1, 4), RelabelRefused (then 2, 11), TableRefused
---     (1, 2, rows upward with 5, 6, 7 in each), TextRefused (2, 8, 1, 9), RecordRefused (2, 1, 2, 4, 10); "Of one number, the first place
---     counts": First, FirstRow. 3 comes last: three-exactly. No two conditions hold at once: one-refusal. Done: done-exactly, with the count.
+--     DemandOne.refused-exactly: a call refuses with a number and a place exactly when the condition holds that 01 gives. There is a line for each
+--     number and each kind of input, in 01's order: LawVector.VectorRefused (1, 4), LawRelabel.RelabelRefused (then 2, 11),
+--     LawFromTable.TableRefused (1, 2, rows upward with 5, 6, 7 in each), LawFromNewick.TextRefused (2, 8, 1, 9), LawUnpack.RecordRefused
+--     (2, 1, 2, 4, 10); "Of one number, the first place counts": Given.First, FirstRow. 3 comes last: room-exactly. No two conditions hold at
+--     once: one-refusal. Done: done-exactly, with the count.
 -- "and every lent buffer then holds what it held."
 --     DemandOne.refusal-writes-nothing.
 --
 -- Demand 2. "The tree of a vector is the one the paper's building rule gives;"
 --     rules: Building has the rule word for word, Tree.treeOf the tree that its merges build; laws: what follows from it.
 -- "vector, table, packed record and text of a tree are the ones the rules fix;"
---     DemandTwo.demand-two: to-table, to-text, to-record: where there is room the call is done with the number of elements, the buffer holds the
---     elements and behind them what it held; from-tree: the vector of a valid vector's tree is that vector.
+--     DemandTwo.demand-two: table-written, text-written, record-written: where there is room the call is done with the number of elements, the
+--     buffer holds the elements and behind them what it held. tree-turned-back: the vector of a valid vector's tree is that vector.
+--     table-of-the-tree: the rows make the vector's tree, in the order of merges, "the child with the smaller least leaf first" (WrittenTable).
+--     text-of-the-tree: the text is one of the grammar and reads as that tree, the smaller least leaf first (WrittenText).
 -- "turned back, each gives the vector it came from."
---     DemandTwo.demand-two: from-table, from-text, from-record; as equations of the rules: table-back, text-back, record-back. For all valid
---     vectors of 1 to 1,024 entries.
+--     DemandTwo.demand-two: table-turned-back, text-turned-back, record-turned-back; as equations of the rules: table-back, text-back,
+--     record-back. For all valid vectors of 1 to 1,024 entries.
+-- "The result is the permutation new and the vector of the relabelled tree, which has v(i) < i"; "leaf x becoming p(x)"
+--     DemandTwo.demand-two: shuffled-written, relabelled-written: the answer and what each buffer holds. shuffled-tree, relabelled-tree: new is a
+--     permutation, the vector is valid and has as many entries, the clades of its tree are the new names of the tree's clades, v(i) < i (Relabelled).
 --
 -- Demand 3. Accepted inputs of any notation "lead to the same vector exactly when they have the same clades";
 --     DemandThree.demand-three. Input has the four kinds, Leads says that one is accepted and to which vector it leads, which is the one that
@@ -31,10 +38,15 @@
 -- "every rooted binary tree with leaves 0 to n-1 .. is the tree of a vector".
 --     DemandThree.every-tree-has-a-vector, for n up to 1,024: the vector is accepted.
 --
--- "How tight the statements are": Tight has a refutation of each wrong library that 01 names, and that one library, and only one, keeps the promises.
+-- "How tight the statements are". A wrong library breaks the promise where only one call or one buffer is wrong, and only where it is done:
+--     "One that refuses everything": Tight.not-refuse-everything. "One fixed vector for all": not-one-vector; by demand 3 too:
+--     TightByThree.not-one-vector-of-tables, -texts, -records. "One that answers done and writes nothing": not-write-nothing. "One that merges
+--     properly once": every-row, not-one-row. "A count of elements not tied to what was written": done-is-written, count-is-written, not-one-count.
+--     One library, and only one, keeps the promises: one-library-keeps, no-two-libraries.
 --
--- The other files are on the way there: FirstPlace and FirstWrongRow (the searches of the rules find the first place), Settled and its three
--- companions (what a call makes, from the conditions), Answered (what comes back of it).
+-- The other files are on the way there: FirstPlace and FirstWrongRow (the searches of the rules find the first place), Cases (each condition
+-- holds or not), Law (demand 1 for any call), Law* (when each call refuses, and that it makes what is wanted), Long (how many elements that is),
+-- EachCall (for every vector an input of each call that is done).
 pub mod Given
 pub mod FirstPlace
 pub mod FirstWrongRow
@@ -51,6 +63,7 @@ pub mod LawPack
 pub mod LawUnpack
 pub mod LawShuffle
 pub mod LawRelabel
+pub mod Shapes
 pub mod Calls
 pub mod DemandOne
 pub mod Relabelled
@@ -59,4 +72,6 @@ pub mod WrittenText
 pub mod DemandTwo
 pub mod Leads
 pub mod DemandThree
+pub mod EachCall
 pub mod Tight
+pub mod TightByThree
