@@ -1,6 +1,6 @@
 -- The bytes of the input that the listing program holds: those of the record at its front, or all that are left where the input ends
 -- before. Their lines are the listing.
--- Main definitions: held, linesHeld. Main results: held-in-two, held-line, held-behind, held-listing.
+-- Main definitions: held, linesHeld. Main results: held-in-two, held-line, held-behind, held-listing, program-listing.
 use mathlib.Core.List.{List, [], _∷_, _++_}
 use mathlib.Core.Path.{_≡_, refl, sym, ap, _∙_}
 use Prim.Native.Nat.{ℕ, zero, suc, _+_, _-_, _≤_, _<_}
@@ -11,8 +11,9 @@ use lib.Seq.{take-all, take-add, length-take-le}
 use borrow.Author.Tests.{lt-ltb, le-ltb}
 use Rattle.rules.specs.Record.{leafCount, recordLength}
 use Rattle.rules.specs.Answer.{Made, made, refuses}
-use Rattle.rules.specs.Calls.{refuseIf, refuseCount, unpack}
-use Rattle.rules.specs.Listing.{then, lineFor, firstRecord, lines, listing}
+use Rattle.rules.specs.Guards.{refuseIf, refuseCount}
+use Rattle.rules.specs.CallUnpack.{unpack}
+use Rattle.rules.specs.Listing.{then, lineFor, firstRecord, lines, listing, mostRecords, listingOf}
 use Rattle.basics.specs.Cases.{by-lt, by-eq}
 use Rattle.laws.specs.Guards.{no-leaf, many-leaves, some-leaves, refuse-if, pass-if}
 use Rattle.laws.specs.FromRecord.{under-two-bytes, no-leaf-record, many-leaf-record, wrong-record}
@@ -138,3 +139,7 @@ held-listing (suc k) (b ∷ s) =
     same : (m : Made) → lineFor (held t) ≡ m → lines m (listing k (drop (length (held t)) t)) ≡ lines m (listing k (drop (recordLength (leafCount t)) t))
     same (made line) e = ap (λ (j : ℕ). lines (made line) (listing k (drop j t))) (held-behind t e)
     same (refuses number place) e = refl
+
+pub program-listing : (s : List ℕ) → linesHeld mostRecords s ≡ listingOf s
+unfolding listingOf
+program-listing s = held-listing mostRecords s

@@ -6,14 +6,18 @@ use mathlib.Core.Option.{Option, none, some}
 use mathlib.Core.Path.{_≡_, refl, sym, ap, subst, _∙_}
 use Prim.Native.Nat.{ℕ, _-_, _≤_}
 use native.Mathlib.Omega.{arith}
-use lib.Dec.{eqb, ltb}
+use lib.Dec.{eqb, ltb, leb}
 use lib.ListN.{length, take, drop, length-append}
 use lib.Seq.{take-at}
 use borrow.Author.Tests.{eqb-false, ltb-false, le-leb}
 use Rattle.rules.specs.Vector.{fault}
 use Rattle.rules.specs.Record.{leafCount, recordLength, entriesOf, anySet, padding}
-use Rattle.rules.specs.Answer.{Outcome, done, refused, Made, made, refuses, answer, after}
-use Rattle.rules.specs.Calls.{refuseIf, refuseAt, refuseCount, refuseLength, fromEntries, unpack}
+use Rattle.rules.specs.declared.Answer.{Answer}
+use Rattle.rules.specs.declared.Answer.the-variants.{Done}
+use Rattle.rules.specs.Answer.{Outcome, done, refused, reads, Made, made, refuses}
+use Rattle.rules.specs.Guards.{refuseIf, refuseAt, refuseCount, refuseLength}
+use Rattle.rules.specs.Promise.{answers, holds, Keeps}
+use Rattle.rules.specs.CallUnpack.{fromEntries, unpack, unpack-call}
 use Rattle.rules.specs.Listing.{lineOf, then, lineFor}
 use Rattle.laws.specs.Answers.{done-same, done-not-refused}
 use Rattle.basics.specs.Bools.{or-no}
@@ -64,42 +68,40 @@ unfolding lineOf
 turn (done n) vector = made (lineOf (take n vector))
 turn (refused number place) vector = refuses number place
 
-module _ (s old vector : List ℕ) (room : ℕ) (enough : 1024 ≤ room) where
-  answer-made : {v : List ℕ} → unpack s ≡ made v → answer (unpack s) room ≡ done (length v)
-  unfolding answer
-  answer-made {v} q = let fits = le-leb (length v) room (omega (arith, unpacked-packs s v q .few)) in rw (q, fits)
+-- an answer that keeps unpack's promise, with room for every vector
+module _ (s : List ℕ) {old vector : List ℕ} {a : Answer} (enough : 1024 ≤ length old) (kept : Keeps (unpack-call s) old a vector) where
+  fits : {v : List ℕ} → unpack s ≡ made v → leb (length v) (length old) ≡ true
+  fits {v} q = le-leb (length v) (length old) (omega (arith, unpacked-packs s v q .few))
 
-  after-made : {v : List ℕ} → unpack s ≡ made v → after (unpack s) room old ≡ v ++ drop (length v) old
-  unfolding after
-  after-made {v} q = let fits = le-leb (length v) room (omega (arith, unpacked-packs s v q .few)) in rw (q, fits)
+  -- where v is made it stands at the front
+  front : {v : List ℕ} → unpack s ≡ made v → vector ≡ holds (unpack-call s) (made v) old → {n : ℕ} → n ≡ length v
+      → (take n vector ≡ v) × (n ≤ length vector)
+  unfolding holds
+  front {v} q h {n} k =
+      let l : vector ≡ v ++ drop (length v) old = h ∙ rw (fits q) in
+      (ap (take n) l ∙ take-at v (drop (length v) old) n (sym k), omega (arith, ap length l, length-append v (drop (length v) old)))
 
-  pub accepted : {n : ℕ} → done n ≡ answer (unpack s) room → vector ≡ after (unpack s) room old → Accepted s vector n
-  unfolding answer
-  accepted {n} d a = go (unpack s) refl
+  pub accepted : {n : ℕ} → a ≡ Done n → Accepted s vector n
+  unfolding answers reads
+  accepted {n} d = go (kept .what) (kept .made-so) (kept .answered) (kept .held)
     where
-      go : (m : Made) → unpack s ≡ m → Accepted s vector n
-      go (refuses number place) q = absurd (done-not-refused n number place (d ∙ rw q))
-      go (made v) q =
-          let k : n ≡ length v = done-same (d ∙ answer-made q) in
-          let l : vector ≡ v ++ drop (length v) old = a ∙ after-made q in
-          let t : take n vector ≡ v = ap (take n) l ∙ take-at v (drop (length v) old) n (sym k) in
+      go : (m : Made) → unpack s ≡ m → reads a ≡ answers (unpack-call s) m old → vector ≡ holds (unpack-call s) m old → Accepted s vector n
+      go (refuses number place) q e h = absurd (done-not-refused n number place (ap reads (sym d) ∙ e))
+      go (made v) q e h =
+          let k : n ≡ length v = done-same (ap reads (sym d) ∙ e ∙ rw (fits q)) in
+          let f = front q h k in
           record {
-            makes = q ∙ ap made (sym t);
-            packs = subst Packs (sym t) (unpacked-packs s v q);
-            within = omega (arith, ap length l, length-append v (drop (length v) old), k);
-            count = k ∙ sym (ap length t);
+            makes = q ∙ ap made (sym (f .0));
+            packs = subst Packs (sym (f .0)) (unpacked-packs s v q);
+            within = f .1;
+            count = k ∙ sym (ap length (f .0));
           }
 
-  refused-so : {number place : ℕ} → refused number place ≡ answer (unpack s) room → unpack s ≡ refuses number place
-  unfolding answer
-  refused-so {number} {place} d = go (unpack s) refl
-    where
-      go : (m : Made) → unpack s ≡ m → unpack s ≡ refuses number place
-      go (refuses a b) q = let z : refused number place ≡ refused a b = d ∙ rw q in q ∙ cc
-      go (made v) q = absurd (done-not-refused (length v) number place (sym (d ∙ answer-made q)))
-
   -- By unpack's promise a turn makes of the bytes what the rules say of them.
-  pub turn-line : (o : Outcome) → o ≡ answer (unpack s) room → vector ≡ after (unpack s) room old → turn o vector ≡ lineFor s
-  unfolding turn lineFor then
-  turn-line (done n) d a = let q = accepted d a .makes in rw q
-  turn-line (refused number place) d a = let q = refused-so d in rw q
+  pub turn-line : turn (reads a) vector ≡ lineFor s
+  unfolding turn answers lineFor then
+  turn-line = go (kept .what) (kept .made-so) (kept .answered) (kept .held)
+    where
+      go : (m : Made) → unpack s ≡ m → reads a ≡ answers (unpack-call s) m old → vector ≡ holds (unpack-call s) m old → turn (reads a) vector ≡ lineFor s
+      go (refuses number place) q e h = rw (e, q)
+      go (made v) q e h = let o : reads a ≡ done (length v) = e ∙ rw (fits q) in rw (o, q) (ap (λ u. made (lineOf u)) (front q h refl .0))

@@ -2,9 +2,11 @@
 // The first refusal ends the run with the line `refused`, number, place. A read that fails counts as the end of the input, and a
 // write that fails ends the run.
 use rules::Answer;
+ghost use mathlib.Core.Path.{_≡_};
 ghost use Prim.Native.Nat.{_≤_};
 ghost use lib.ListN.{length, take};
 ghost use Rattle.io.specs.Counts.{Counts};
+ghost use Rattle.rules.specs.Listing.{mostRecords};
 ghost use Rattle.holding.specs.Wanted.{bytesWanted};
 
 fn main() {
@@ -18,7 +20,7 @@ fn main() {
 fn list(held: &mut [u8], vector: &mut [u16], out: &mut [u8])
     requires { ⌜ (1280 ≤ length (now held)) × (1024 ≤ length (now vector)) × (10624 ≤ length (now out)) ⌝ }
 {
-    let mut left: u32 = 4294967295;
+    let mut left = most_records();
     while 0 < left {
         let k = read_record(held);
         if k == 0 {
@@ -36,6 +38,13 @@ fn list(held: &mut [u8], vector: &mut [u16], out: &mut [u8])
         }
         left -= 1;
     }
+}
+
+// It looks no further than so many records.
+fn most_records() -> u32
+    ensures { λ r. ⌜ r ≡ mostRecords ⌝ }
+{
+    4294967295
 }
 
 // Reads the next record and nothing behind it, and answers how many bytes of it there are: none where the input ends before it, and

@@ -1,9 +1,8 @@
 -- `write_text` meets its contract: there is room for the text of a valid vector, so the call is done.
 use native.Mathlib.Omega.{arith}
 use borrow.Author.Needs.{needs}
-use Rattle.rules.specs.Answer as answers
-use Rattle.line.proofs.Text.{part-length, part-room, text-count, text-written, text-not-refused}
-use mathlib.Core.Path.{sym, ap, _∙_}
+use Rattle.line.specs.Longest.{text-at-most}
+use Rattle.line.proofs.Text.{text-not-refused, text-count, text-written}
 use Rattle.line.proofs.write_text.Statement.{statement}
 use Rattle.line.proofs.write_text.Tie as tie
 
@@ -29,35 +28,29 @@ same-length : tie.Need-same-length
 same-length c = search needs
 
 returns : tie.Need-returns
-unfolding answers.reads answers.numberOf
 returns c =
     let call = c .before .before .before .before in
     let start = call .before .before .before .before in
     let p = start .pre in
-    let room = part-room (start .args .out .now) (start .args .at) (p .2) in
-    absurd (text-not-refused _ (p .0) (p .1) _ _ _ room (ap answers.reads (sym (c .enum-told .given .1)) ∙ call .to-newick .ensures .0))
+    absurd (text-not-refused _ (p .0) (p .1) (start .args .out .now) (p .2) (call .to-newick .ensures) (c .enum-told .given .1))
 
 add-result : tie.Need-add-result
-unfolding answers.reads answers.numberOf
 add-result c =
     let call = c .before .before .before .before .before in
     let start = call .before .before .before .before in
     let p = start .pre in
-    let room = part-room (start .args .out .now) (start .args .at) (p .2) in
-    omega (arith, text-count _ (p .0) (p .1) _ _ room (ap answers.reads (sym (c .before .k .given .1)) ∙ call .to-newick .ensures .0))
+    let count = text-count _ (p .0) (p .1) (start .args .out .now) (p .2) (call .to-newick .ensures) (c .before .k .given .1) in
+    omega (arith, text-at-most (start .args .v .now) (p .0) (p .1))
 
 same-length-2 : tie.Need-same-length-2
 same-length-2 c = search needs
 
 returns-2 : tie.Need-returns-2
-unfolding answers.reads answers.numberOf
 returns-2 c =
     let call = c .before .before .before .before .before in
     let start = call .before .before .before .before in
     let p = start .pre in
-    text-written _ (p .0) (p .1) _ _ _ _ _ (p .2) (part-length (start .args .out .now) (start .args .at))
-    (ap answers.reads (sym (c .before .k .given .1)) ∙ call .to-newick .ensures .0)
-    (call .to-newick .ensures .1)
+    text-written _ (p .0) (p .1) (start .args .out .now) (p .2) (call .to-newick .ensures) (c .before .k .given .1)
 
 pub write-text-spec : {M : Type 1} → statement M
 write-text-spec =

@@ -1,10 +1,10 @@
+-- `list` meets its contract: each turn has the buffers it needs, and what unpack is done with is a vector whose line fits.
 use native.Mathlib.Omega.{arith}
 use borrow.Author.Needs.{needs}
 use mathlib.Core.List.{List}
 use Prim.Native.Nat.{ℕ, _≤_}
-use mathlib.Core.Path.{_≡_, refl, sym, ap, _∙_}
+use mathlib.Core.Path.{_≡_}
 use lib.ListN.{length, take}
-use Rattle.rules.specs.Answer as answers
 use Rattle.holding.specs.Turn.{Accepted, accepted}
 use Rattle.listing.proofs.Fits.{line-counts}
 use Rattle.listing.proofs.list.Statement.{statement}
@@ -34,10 +34,10 @@ bytes c = take (read c .read-record .result) (read c .read-record .last .0)
 
 -- their vector
 here : (c : tie.After-given Inv-loop μ-loop) → Accepted (bytes c) (call c .unpack .last .1 .0) (c .given .given .0 .0)
-unfolding answers.reads answers.numberOf
-here c =
-    let said = call c .unpack .ensures in
-    accepted (bytes c) (turn c .loop .vector) _ _ (turn c .loop .inv .4) (ap answers.reads (sym (c .given .given .1)) ∙ said .0) (said .1)
+here c = accepted (bytes c) (turn c .loop .inv .4) (call c .unpack .ensures) (c .given .given .1)
+
+most-records-requires : tie.Need-most-records-requires Inv-loop μ-loop
+most-records-requires c κs = search needs
 
 loop-holds : tie.Need-loop-holds Inv-loop μ-loop
 loop-holds c = search needs
@@ -156,6 +156,7 @@ list-spec =
     (tie.spec
     Inv-loop
     μ-loop
+    most-records-requires
     loop-holds
     read-record-requires
     same-length
