@@ -21,3 +21,4 @@ pub mod CallShuffle
 pub mod CallRelabel
 pub mod Listing
 pub mod Samples
+pub mod TextSamples

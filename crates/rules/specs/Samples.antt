@@ -1,25 +1,24 @@
 -- The samples of 01, proved of the definitions, and more of them: an edit of a definition of rules should break one.
 -- Main results: samples-hold (the marked ones: one table, one statement), refused-hold (01's refusals), worked-hold (worked by hand),
--- orders-hold and long-texts (which refusal comes first), rooms-hold (what comes back), figure-s1 (a run step by step), turned-back (every vector of up to five
+-- orders-hold (which refusal comes first), rooms-hold (what comes back), figure-s1 (a run step by step), turned-back (every vector of up to five
 -- entries, from its tree, table and record), listings-hold.
-use mathlib.Core.Bool.{Bool, true, false, _&&_, cond, false≢true}
-use mathlib.Core.Logic.{_≢_}
+use mathlib.Core.Bool.{Bool, true, false, _&&_, cond}
 use mathlib.Core.List.{List, [], _∷_, _++_, map, flatMap}
 use mathlib.Core.Option.{Option, none, some}
-use mathlib.Core.Path.{_≡_, refl, sym, _∙_}
+use mathlib.Core.Path.{_≡_, refl}
 use Prim.Native.Char.{code}
 use Prim.Native.Nat.{ℕ, zero, suc, _≤_, _<_}
 use Prim.Native.String.{String, [] as []ˢ, _∷_ as _∷ˢ_}
 use native.Mathlib.Bridge.{le-by-compare, IsLe}
 use native.Mathlib.Omega.{arith}
 use lib.Dec.{eqb}
-use lib.ListN.{length, getD, replicate, length-append}
+use lib.ListN.{length, replicate}
 use Rattle.rules.specs.Building.{Merge, State, below, start, next, merge, merges}
 use Rattle.rules.specs.Vector.{entry, bound, Valid}
-use Rattle.rules.specs.Tree.{Tree, leaf, node, treeOf}
+use Rattle.rules.specs.Tree.{leaf, treeOf}
 use Rattle.rules.specs.Order.{listed, vectorOf}
 use Rattle.rules.specs.Table.{tableOf}
-use Rattle.rules.specs.Newick.{pairText, textOf, isDigit, allDigits, valueFrom, nought, number, Node, label, pair, Text, text, Begins, broken, ended}
+use Rattle.rules.specs.Newick.{pairText, allDigits, valueFrom, nought, number, Node, label, pair, text}
 use Rattle.rules.specs.Record.{recordOf}
 use Rattle.rules.specs.Answer.{Outcome, done, refused, Making, Made, made, refuses}
 use Rattle.rules.specs.Promise.{Call, answers, holds}
@@ -28,14 +27,14 @@ use Rattle.rules.specs.CallCheck.{check, check-call}
 use Rattle.rules.specs.CallToTable.{toTable}
 use Rattle.rules.specs.CallFromTable.{fromTable}
 use Rattle.rules.specs.CallToNewick.{toText}
-use Rattle.rules.specs.CallFromNewick.{fromLabels, FromText, too-long, breaks, reads-as, from-newick-call}
+use Rattle.rules.specs.CallFromNewick.{fromLabels, FromText, reads-as, from-newick-call}
 use Rattle.rules.specs.CallPack.{pack, pack-call}
 use Rattle.rules.specs.CallUnpack.{unpack}
 use Rattle.rules.specs.CallShuffle.{shuffle, shuffle-call}
 use Rattle.rules.specs.CallRelabel.{relabel}
 
 -- the bytes of a quoted text
-abbrev bytes : String → List ℕ
+abbrev pub bytes : String → List ℕ
 bytes []ˢ = []
 bytes (c ∷ˢ s) = code c ∷ bytes s
 
@@ -88,14 +87,14 @@ abbrev shuffles : List (Line (List ℕ × List ℕ))
 shuffles = (shuffle (0 ∷ 0 ∷ 2 ∷ 1 ∷ []), made (0 ∷ 2 ∷ 1 ∷ 3 ∷ [], 0 ∷ 0 ∷ 0 ∷ 2 ∷ [])) ∷ []
 
 -- the labels of the samples, as nodes
-node-0 : {d : ℕ} → Node d (48 ∷ []) (leaf 0)
+pub node-0 : {d : ℕ} → Node d (48 ∷ []) (leaf 0)
 node-0 = label nought
 
-digit : {d : ℕ} (c : ℕ) → allDigits (c ∷ []) ≡ true → eqb c 48 ≡ false → Node d (c ∷ []) (leaf (valueFrom 0 (c ∷ [])))
+pub digit : {d : ℕ} (c : ℕ) → allDigits (c ∷ []) ≡ true → eqb c 48 ≡ false → Node d (c ∷ []) (leaf (valueFrom 0 (c ∷ [])))
 unfolding IsLe
 digit c h k = label (number c [] h k (le-by-compare 0 3 tt))
 
-node-1 : {d : ℕ} → Node d (49 ∷ []) (leaf 1)
+pub node-1 : {d : ℕ} → Node d (49 ∷ []) (leaf 1)
 unfolding allDigits valueFrom
 node-1 = digit 49 refl refl
 
@@ -148,14 +147,16 @@ checks =
     ∷ (check (replicate 1024 0), made tt)
     ∷ []
 
--- of the refused texts those that the grammar takes: where a text breaks it nothing computes (Newick.BreaksAt)
-refused-hold : Hold checks × (unpack (0x00 ∷ 0x41 ∷ []) ≡ refuses 10 1) × FromText (bytes "(0,0);") (refuses 9 3) × FromText (bytes "5;") (refuses 9 0)
+-- of the refused texts those that the grammar takes; TextSamples has the others
+refused-hold : Hold checks × (unpack (0x00 ∷ 0x41 ∷ []) ≡ refuses 10 1) × FromText (bytes "(0,0);") (refuses 9 3)
+    × FromText (bytes "5;") (refuses 9 0) × FromText (bytes "1;") (refuses 9 0)
 unfolding check unpack fromLabels pairText IsLe allDigits valueFrom
 refused-hold = (
   refl,
   refl,
   reads-as _ (le-by-compare 6 6056 tt) (text (pair node-0 node-0)),
   reads-as _ (le-by-compare 2 6056 tt) (text (digit 53 refl refl)),
+  reads-as _ (le-by-compare 2 6056 tt) (text node-1),
 )
 
 -- Worked by hand from 01's words: every entry at its bound, so that each leaf is beside all the smaller ones, and a label of two digits;
@@ -179,11 +180,6 @@ worked-hold =
     let to-9 = pair (pair (pair (pair to-5 (digit 54 refl refl)) (digit 55 refl refl)) (digit 56 refl refl)) (digit 57 refl refl) in
     let ten = label (number 49 (48 ∷ []) refl refl (le-by-compare 1 3 tt)) in
     (line refl (reads-as _ (le-by-compare 43 6056 tt) (text (pair to-9 ten))) (packs refl refl) end, refl, refl)
-
--- numbers in decimal
-decimals : map (λ x. textOf (leaf x)) (0 ∷ 9 ∷ 10 ∷ 99 ∷ 100 ∷ 999 ∷ 1000 ∷ 1023 ∷ []) ≡ map bytes ("0;" ∷ "9;" ∷ "10;" ∷ "99;" ∷ "100;" ∷ "999;" ∷ "1000;" ∷ "1023;" ∷ [])
-unfolding textOf
-decimals = refl
 
 -- Where two refusals would do, 01's "Order" decides; and each way in which one number is refused.
 abbrev orders : List (Line (List ℕ))
@@ -216,108 +212,6 @@ orders =
 orders-hold : Hold orders
 unfolding pack fromTable unpack relabel
 orders-hold = refl
-
--- 2^k copies of a node as one node: its bytes, its tree, and how deep it goes where the copies go to d
-copies : ℕ → List ℕ → List ℕ
-unfolding pairText
-copies zero s = s
-copies (suc k) s = copies k (pairText s s)
-
-even : ℕ → Tree → Tree
-even zero t = t
-even (suc k) t = even k (node t t)
-
-deeper : ℕ → ℕ → ℕ
-deeper zero d = d
-deeper (suc k) d = deeper k (suc d)
-
-copied : (k : ℕ) {d : ℕ} {s : List ℕ} {t : Tree} → Node d s t → Node (deeper k d) (copies k s) (even k t)
-unfolding copies even deeper
-copied zero n = n
-copied (suc k) n = copied k (pair n n)
-
--- 1,158 labels in 6,056 bytes
-abbrev long : List ℕ
-long =
-    pairText (copies 10 (bytes "10")) (pairText (copies 7 (bytes "1000")) (pairText (copies 2 (bytes "1000")) (copies 1 (bytes "1000")))) ++ (59 ∷ [])
-
--- "Text: 2 (above 6,056 bytes, place 6056), 8, 1, 9": 1 where labels stand twice, 2 where the grammar is broken
-long-texts : FromText long (refuses 1 0) × FromText (replicate 6057 40) (refuses 2 6056)
-unfolding copies even deeper fromLabels pairText IsLe allDigits valueFrom
-long-texts = (
-  reads-as _ (le-by-compare 6056 6056 tt) (text (pair (copied 10 (label (number 49 (48 ∷ []) refl refl (le-by-compare 1 3 tt))))
-      (pair (copied 7 thousand) (pair (copied 2 thousand) (copied 1 thousand))))),
-  too-long (le-by-compare 6057 6057 tt),
-)
-  where
-    thousand : {d : ℕ} → Node d (49 ∷ 48 ∷ 48 ∷ 48 ∷ []) (leaf 1000)
-    thousand = label (number 49 (48 ∷ 48 ∷ 48 ∷ []) refl refl (le-by-compare 3 3 tt))
-
--- which bytes are digits
-signs : (map isDigit (47 ∷ 48 ∷ 57 ∷ 58 ∷ []) ≡ false ∷ true ∷ true ∷ false ∷ []) × (map allDigits ((49 ∷ 44 ∷ []) ∷ (44 ∷ 49 ∷ []) ∷ []) ≡ false ∷ false ∷ [])
-unfolding isDigit allDigits
-signs = (refl, refl)
-
--- What stands at the first places of a text, and at its last.
-begins-well : {s : List ℕ} {t : Tree} → Text s t → (1 ≤ length s) × (getD s 0 0 ≢ 41)
-unfolding pairText allDigits isDigit
-begins-well (text (label nought)) = (omega arith, λ e. omega arith)
-begins-well (text (label (number c s h k l))) = (omega arith, λ e. false≢true (rw e at h))
-begins-well (text (pair n m)) = (omega arith, λ e. omega arith)
-
-ends-well : {s : List ℕ} {t : Tree} → Text s t → (k : ℕ) → length s ≡ suc k → getD s k 0 ≡ 59
-ends-well (text {s} n) k e = rw (let z : k ≡ length s = omega (arith, length-append s (59 ∷ [])) in z) (last s)
-  where
-    last : (s : List ℕ) → getD (s ++ (59 ∷ [])) (length s) 0 ≡ 59
-    last [] = refl
-    last (x ∷ s) = last s
-
--- behind "0" no digit follows
-nought-alone : {s : List ℕ} {t : Tree} → Text s t → getD s 0 0 ≡ 48 → getD s 1 0 ≢ 49
-unfolding pairText
-nought-alone (text (label nought)) e f = omega arith
-nought-alone (text (label (number c s h k l))) e f = false≢true (sym k ∙ rw e)
-nought-alone (text (pair n m)) e f = omega arith
-
--- behind four digits no fifth follows
-four-digits : {s : List ℕ} {t : Tree} → Text s t → getD s 0 0 ≡ 49 → getD s 1 0 ≡ 50 → getD s 2 0 ≡ 51 → getD s 3 0 ≡ 52 → getD s 4 0 ≢ 53
-unfolding pairText
-four-digits (text (label nought)) e₀ e₁ e₂ e₃ e₄ = omega arith
-four-digits (text (label (number c [] h k l))) e₀ e₁ e₂ e₃ e₄ = omega arith
-four-digits (text (label (number c (x ∷ []) h k l))) e₀ e₁ e₂ e₃ e₄ = omega arith
-four-digits (text (label (number c (x ∷ y ∷ []) h k l))) e₀ e₁ e₂ e₃ e₄ = omega arith
-four-digits (text (label (number c (x ∷ y ∷ z ∷ []) h k l))) e₀ e₁ e₂ e₃ e₄ = omega arith
-four-digits (text (label (number c (x ∷ y ∷ z ∷ w ∷ s) h k l))) e₀ e₁ e₂ e₃ e₄ = omega arith
-four-digits (text (pair n m)) e₀ e₁ e₂ e₃ e₄ = omega arith
-
--- behind the second node of a pair no comma follows
-two-nodes : {s : List ℕ} {t : Tree} → Text s t → getD s 0 0 ≡ 40 → getD s 1 0 ≡ 48 → getD s 2 0 ≡ 44 → getD s 3 0 ≡ 49 → getD s 4 0 ≢ 44
-unfolding pairText allDigits isDigit
-two-nodes (text (label nought)) e₀ e₁ e₂ e₃ e₄ = omega arith
-two-nodes (text (label (number c s h k l))) e₀ e₁ e₂ e₃ e₄ = false≢true (rw e₀ at h)
-two-nodes (text (pair (label nought) (label nought))) e₀ e₁ e₂ e₃ e₄ = omega arith
-two-nodes (text (pair (label nought) (label (number c [] h k l)))) e₀ e₁ e₂ e₃ e₄ = omega arith
-two-nodes (text (pair (label nought) (label (number c (x ∷ s) h k l)))) e₀ e₁ e₂ e₃ e₄ = false≢true (rw (e₃, e₄) at h)
-two-nodes (text (pair (label nought) (pair n m))) e₀ e₁ e₂ e₃ e₄ = omega arith
-two-nodes (text (pair (label (number c s h k l)) m)) e₀ e₁ e₂ e₃ e₄ = false≢true (sym k ∙ rw e₁)
-two-nodes (text (pair (pair n m) o)) e₀ e₁ e₂ e₃ e₄ = omega arith
-
--- 01's texts that break the grammar, each with a text that begins as it does up to its place
-broken-texts : FromText (bytes "") (refuses 8 0) × FromText (bytes "01;") (refuses 8 1) × FromText (bytes "(0,1)") (refuses 8 5)
-    × FromText (bytes "(0,1,2);") (refuses 8 4) × FromText (bytes "12345;") (refuses 8 4) × FromText (replicate 6056 41) (refuses 8 0)
-unfolding Begins IsLe pairText allDigits valueFrom
-broken-texts = (
-  breaks (le-by-compare 0 6056 tt) (ended nothing (λ t k. let l = begins-well k .0 in omega arith)),
-  breaks (le-by-compare 3 6056 tt) (broken (le-by-compare 2 3 tt) (59 ∷ [], leaf 0, text node-0) (λ w. nought-alone (w .2) refl refl)),
-  breaks (le-by-compare 5 6056 tt) (ended (59 ∷ [], _, text (pair node-0 node-1)) (λ t k. let e = ends-well k 4 refl in omega arith)),
-  breaks (le-by-compare 8 6056 tt) (broken (le-by-compare 5 8 tt) (bytes ");", _, text (pair node-0 node-1)) (λ w. two-nodes (w .2) refl refl refl refl refl)),
-  breaks (le-by-compare 6 6056 tt)
-      (broken (le-by-compare 5 6 tt) (59 ∷ [], _, text (label (number 49 (50 ∷ 51 ∷ 52 ∷ []) refl refl (le-by-compare 3 3 tt)))) (λ w. four-digits (w .2) refl refl refl refl refl)),
-  breaks (le-by-compare 6056 6056 tt) (broken (le-by-compare 1 6056 tt) nothing (λ w. begins-well (w .2) .1 refl)),
-)
-  where
-    nothing : Begins []
-    nothing = (bytes "0;", leaf 0, text node-0)
 
 -- 01, "What comes back": the outcome, and what the lent buffers then hold
 back : {Lent Written : Type 0} → Call Lent Written → Making Written → Lent → Outcome × Lent
