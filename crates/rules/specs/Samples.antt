@@ -19,7 +19,7 @@ use Rattle.rules.specs.Tree.{leaf, treeOf}
 use Rattle.rules.specs.Order.{listed, vectorOf}
 use Rattle.rules.specs.Table.{tableOf}
 use Rattle.rules.specs.Newick.{pairText, allDigits, valueFrom, nought, number, Node, label, pair, text}
-use Rattle.rules.specs.Record.{recordOf}
+use Rattle.rules.specs.Record.{total, recordOf}
 use Rattle.rules.specs.Answer.{Outcome, done, refused, Making, Made, made, refuses}
 use Rattle.rules.specs.Promise.{Call, answers, holds}
 use Rattle.rules.specs.Listing.{listing}
@@ -136,6 +136,11 @@ validity = (
     first zero h = le-by-compare 0 0 tt
     first (suc i) h = absurd (omega arith)
 
+-- the totals that 01 gives
+totals : map total (1 ∷ 2 ∷ 3 ∷ 4 ∷ 1024 ∷ []) ≡ 11 ∷ 11 ∷ 13 ∷ 16 ∷ 10240 ∷ []
+unfolding total
+totals = refl
+
 -- 01, "Refused", and what just passes
 abbrev checks : List (Line (Unit {0}))
 checks =
@@ -160,7 +165,7 @@ refused-hold = (
 )
 
 -- Worked by hand from 01's words: every entry at its bound, so that each leaf is beside all the smaller ones, and a label of two digits;
--- a queue that is no stack; a permutation that is not its own inverse.
+-- a queue that is no stack; a permutation that is not its own inverse; a record whose last byte holds one bit of the last entry.
 abbrev bounds : List Marked
 bounds = (0 ∷ 0 ∷ 2 ∷ 4 ∷ 6 ∷ 8 ∷ 10 ∷ 12 ∷ 14 ∷ 16 ∷ 18 ∷ [], "((((((((((0,1),2),3),4),5),6),7),8),9),10);", some (0x01 ∷ 0x74 ∷ 0xD1 ∷ 0x59 ∷ 0xD0 ∷ 0x90 ∷ [])) ∷ []
 
@@ -171,6 +176,8 @@ abbrev worked : List (Line (List ℕ))
 worked =
     (toText (0 ∷ 0 ∷ 2 ∷ 4 ∷ 3 ∷ []), made (bytes "(((0,1),2),(3,4));"))
     ∷ (relabel (0 ∷ 0 ∷ 2 ∷ []) (1 ∷ 2 ∷ 0 ∷ []), made (0 ∷ 0 ∷ 1 ∷ []))
+    ∷ (pack (replicate 14 0 ++ (25 ∷ [])), made (0x01 ∷ 0xE0 ∷ replicate 5 0 ++ (0x0C ∷ 0x80 ∷ [])))
+    ∷ (unpack (0x01 ∷ 0xE0 ∷ replicate 5 0 ++ (0x0C ∷ 0x80 ∷ [])), made (replicate 14 0 ++ (25 ∷ [])))
     ∷ []
 
 worked-hold : Each bounds × Hold queued × Hold worked
