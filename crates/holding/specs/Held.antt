@@ -24,7 +24,7 @@ unfoldable pub held : List ℕ → List ℕ
 unfolding bytesWanted
 held s = take (bytesWanted s) s
 
--- They are read at two times: two bytes, and behind them those that these two want.
+-- They are two bytes and, behind them, as many as these two want.
 pub held-in-two : (s : List ℕ) → held s ≡ take 2 s ++ take (bytesWanted (take 2 s) - 2) (drop 2 s)
 unfolding held
 held-in-two s =

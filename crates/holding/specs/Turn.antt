@@ -55,9 +55,8 @@ unpacked-packs s v e =
     made-same : {u w : List ℕ} → made u ≡ made w → u ≡ w
     made-same q = cc
 
--- what stands at the front of the buffer where unpacking is done: the vector of the bytes
-pub record Accepted (s vector : List ℕ) (n : ℕ) : Type 0 where
-  pub makes : unpack s ≡ made (take n vector)
+-- what stands at the front of the buffer where unpacking is done: a vector that packs
+pub record Accepted (vector : List ℕ) (n : ℕ) : Type 0 where
   pub packs : Packs (take n vector)
   pub within : n ≤ length vector
   pub count : n ≡ length (take n vector)
@@ -81,17 +80,16 @@ module _ (s : List ℕ) {old vector : List ℕ} {a : Answer} (enough : 1024 ≤ 
       let l : vector ≡ v ++ drop (length v) old = h ∙ rw (fits q) in
       (ap (take n) l ∙ take-at v (drop (length v) old) n (sym k), omega (arith, ap length l, length-append v (drop (length v) old)))
 
-  pub accepted : {n : ℕ} → a ≡ Done n → Accepted s vector n
+  pub accepted : {n : ℕ} → a ≡ Done n → Accepted vector n
   unfolding answers reads
   accepted {n} d = go (kept .what) (kept .made-so) (kept .answered) (kept .held)
     where
-      go : (m : Made) → unpack s ≡ m → reads a ≡ answers (unpack-call s) m old → vector ≡ holds (unpack-call s) m old → Accepted s vector n
+      go : (m : Made) → unpack s ≡ m → reads a ≡ answers (unpack-call s) m old → vector ≡ holds (unpack-call s) m old → Accepted vector n
       go (refuses number place) q e h = absurd (done-not-refused n number place (ap reads (sym d) ∙ e))
       go (made v) q e h =
           let k : n ≡ length v = done-same (ap reads (sym d) ∙ e ∙ rw (fits q)) in
           let f = front q h k in
           record {
-            makes = q ∙ ap made (sym (f .0));
             packs = subst Packs (sym (f .0)) (unpacked-packs s v q);
             within = f .1;
             count = k ∙ sym (ap length (f .0));

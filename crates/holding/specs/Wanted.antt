@@ -1,8 +1,8 @@
 -- How many bytes belong to the record at the front of bytes.
 -- Main definition: bytesWanted. Main results: wanted-begun, wanted-no-leaf, wanted-many-leaves, wanted-record; wanted-front, wanted-within.
-use mathlib.Core.Bool.{Bool, true, false, cond, _||_}
+use mathlib.Core.Bool.{false, cond, _||_}
 use mathlib.Core.List.{List, [], _∷_}
-use mathlib.Core.Path.{_≡_, refl, ap, _∙_}
+use mathlib.Core.Path.{_≡_, refl}
 use Prim.Native.Nat.{ℕ, zero, suc, _≤_, _<_}
 use native.Mathlib.Omega.{arith}
 use lib.Dec.{eqb, ltb}

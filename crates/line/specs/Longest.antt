@@ -1,16 +1,18 @@
 -- How long a line is at most.
--- Main results: text-at-most, front-at-most, line-at-most.
+-- Main results: text-at-most, front-at-most, line-at-most, line-fits.
 use mathlib.Core.List.{List, [], _∷_, _++_}
-use mathlib.Core.Path.{ap}
+use mathlib.Core.Path.{ap, _∙_}
 use Prim.Native.Nat.{ℕ, _≤_}
 use native.Mathlib.Omega.{arith}
 use lib.ListN.{length, length-append}
+use lib.Seq.{length-sets}
 use Rattle.rules.specs.Vector.{Valid}
 use Rattle.rules.specs.Tree.{treeOf}
 use Rattle.rules.specs.Newick.{digits, textOf}
 use Rattle.rules.specs.Listing.{commaed, lineOf}
 use Rattle.laws.specs.TreeOf.{tree-leaves}
 use Rattle.grammar.specs.Length.{text-length, text-length-most}
+use Rattle.text_writer.specs.Output.{Wrote}
 use Rattle.line.specs.Front.{frontOf, line-parts}
 use Rattle.line.specs.Commas.{digits-at-most, commaed-longest}
 
@@ -40,3 +42,7 @@ module _ (v : List ℕ) (ok : Valid v) (few : length v ≤ 1024) where
         front-at-most,
         text-at-most,
       )
+
+  -- what is written lies within the buffer
+  pub line-fits : {old new : List ℕ} {r : ℕ} → 10624 ≤ length old → Wrote (lineOf v) 0 old new r → r ≤ length new
+  line-fits {old} room W = omega (arith, W .end, ap length (W .bytes-there) ∙ length-sets old 0 (lineOf v), line-at-most)

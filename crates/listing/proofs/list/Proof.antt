@@ -1,12 +1,11 @@
 -- `list` meets its contract: each turn has the buffers it needs, and what unpack is done with is a vector whose line fits.
-use native.Mathlib.Omega.{arith}
 use borrow.Author.Needs.{needs}
-use mathlib.Core.List.{List}
-use Prim.Native.Nat.{ℕ, _≤_}
+use Prim.Native.Nat.{_≤_}
 use mathlib.Core.Path.{_≡_}
-use lib.ListN.{length, take}
+use lib.ListN.{length}
 use Rattle.holding.specs.Turn.{Accepted, accepted}
-use Rattle.listing.proofs.Fits.{line-counts}
+use Rattle.io.proofs.Counting.{front}
+use Rattle.line.specs.Longest.{line-fits}
 use Rattle.listing.proofs.list.Statement.{statement}
 use Rattle.listing.proofs.list.Tie as tie
 
@@ -22,19 +21,19 @@ abbrev μ-loop : tie.MeasureT-loop
 abbrev call : tie.After-given Inv-loop μ-loop → tie.After-unpack Inv-loop μ-loop
 call c = c .before .before .before .before
 
-abbrev read : tie.After-given Inv-loop μ-loop → tie.After-read-record Inv-loop μ-loop
-read c = call c .before .before .before .before .before .before
-
 abbrev turn : tie.After-given Inv-loop μ-loop → tie.At-loop Inv-loop μ-loop
-turn c = read c .before .before .before
+turn c = call c .before .before .before .before .before .before .before .before .before
 
--- the bytes held
-abbrev bytes : tie.After-given Inv-loop μ-loop → List ℕ
-bytes c = take (read c .read-record .result) (read c .read-record .last .0)
+-- the vector of the bytes held
+here : (c : tie.After-given Inv-loop μ-loop) → Accepted (call c .unpack .last .1 .0) (c .given .given .0 .0)
+here c = accepted _ (turn c .loop .inv .4) (call c .unpack .ensures) (c .given .given .1)
 
--- their vector
-here : (c : tie.After-given Inv-loop μ-loop) → Accepted (bytes c) (call c .unpack .last .1 .0) (c .given .given .0 .0)
-here c = accepted (bytes c) (turn c .loop .inv .4) (call c .unpack .ensures) (c .given .given .1)
+-- its line is within the buffer
+written : (c : tie.After-write-line Inv-loop μ-loop) → c .write-line .result ≤ length (c .write-line .last .1 .0)
+written c =
+    let done = c .before .before .before .before in
+    let P = here done .packs in
+    line-fits _ (P .valid) (P .few) (turn done .loop .inv .5) (c .write-line .ensures)
 
 most-records-requires : tie.Need-most-records-requires Inv-loop μ-loop
 most-records-requires c κs = search needs
@@ -103,16 +102,10 @@ write-line-requires c κs =
     (A .packs .valid, A .packs .few, turn done .loop .inv .5)
 
 slice-reshare-prefix-write-all : tie.Need-slice-reshare-prefix-write-all Inv-loop μ-loop
-slice-reshare-prefix-write-all c =
-    let line = c .before .before in
-    let done = line .before .before .before .before in
-    line-counts _ (here done .packs) (turn done .loop .inv .5) (line .write-line .ensures) .0
+slice-reshare-prefix-write-all c = written (c .before .before)
 
 slice-aggregate-write-all : tie.Need-slice-aggregate-write-all Inv-loop μ-loop
-slice-aggregate-write-all c =
-    let line = c .before .before .before in
-    let done = line .before .before .before .before in
-    line-counts _ (here done .packs) (turn done .loop .inv .5) (line .write-line .ensures) .1
+slice-aggregate-write-all c = front _ _ (written (c .before .before .before))
 
 write-all-requires : tie.Need-write-all-requires Inv-loop μ-loop
 write-all-requires c κs = search needs

@@ -2,7 +2,7 @@
 use native.Mathlib.Omega.{arith}
 use borrow.Author.Needs.{needs}
 use mathlib.Core.List.{List, _++_}
-use Prim.Native.Nat.{ℕ, _≤_, _-_}
+use Prim.Native.Nat.{ℕ, _≤_}
 use lib.ListN.{length, drop}
 use Rattle.listing.proofs.Held.{first-two, held-same, first-counts, first-held, more-wanted, whole-held}
 use Rattle.listing.proofs.read_record.Statement.{statement}
