@@ -1,5 +1,5 @@
 -- The rows of a table, read one by one.
--- Main definitions: Reads, Row-at, Accepted. Main results: reads-start, reads-named, adds-some, reads-next, reads-fault, reads-end.
+-- Main definitions: Reads, Row-at, AllRead. Main results: reads-start, reads-named, adds-some, reads-next, reads-fault, reads-end.
 use mathlib.Core.Path.{_≡_, refl, sym, ap, ap₂, _∙_, subst}
 use mathlib.Core.Logic.{_≢_, ⊎-elim}
 use mathlib.Core.Bool.{Bool, true, false, _||_, false≢true}
@@ -243,13 +243,13 @@ reads-fault {n} {xs} {t} {l} {r} {p} R A d =
     ∙ verdict-fault n t named₀ (l, r, p) (drop (suc t) (rowsOf xs)) d
 
 -- all rows are read
-pub record Accepted (n : ℕ) (xs names lows small next last : List ℕ) : Type 0 where
+pub record AllRead (n : ℕ) (xs names lows small next last : List ℕ) : Type 0 where
   pub no-fault : tableFault n (rowsOf xs) ≡ none
   pub count : length (rowsOf xs) ≡ n - 1
   pub built : Built n (rowsOf xs) names lows small next last
 
 pub reads-end : {n : ℕ} {xs : List ℕ} {t : ℕ} {names lows small next last : List ℕ} → Reads n xs t names lows small next last → n - 1 ≤ t
-    → Accepted n xs names lows small next last
+    → AllRead n xs names lows small next last
 unfolding tableFault
 reads-end {n} {xs} {t} {names = a} {lows = b} {small = c} {next = d} {last = e′} R h =
     let k = rows-count (n - 1) xs (R .count) in

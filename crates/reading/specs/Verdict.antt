@@ -1,5 +1,5 @@
 -- The verdict on one row: 0, or the number of its refusal.
--- Main definitions: verdict, placed, misplacedNumber. Main results: verdict-fault, placed-verdict, named-verdict, placed-row, misplaced-number.
+-- Main definitions: verdict, placed. Main results: verdict-fault, placed-verdict, named-verdict, placed-row, misplaced-verdict.
 use mathlib.Core.Path.{_≡_, refl}
 use mathlib.Core.Logic.{_≢_}
 use mathlib.Core.Bool.{Bool, true, false, not, _&&_, cond}
@@ -69,7 +69,7 @@ placed-row p r e = go (eqb (r .2) p) (ltb (r .0) p) (ltb (r .1) p) refl refl ref
     go true true false q s u f = absurd (omega arith)
     go true true true q s u f = (eqb-true (r .2) p q, ltb-true (r .0) p s, ltb-true (r .1) p u)
 
--- ---- the test for them, and the number where it holds
+-- ---- the test for them
 pub wrong-parent : (p l r q : ℕ) → q ≢ p → true ≡ ltb 0 (placed p (l, r, q))
 unfolding placed
 wrong-parent p l r q h = rw (ne-eqb q p h)
@@ -92,37 +92,12 @@ misplaced-not p r e q = omega (arith, ltb-true 0 (placed p r) e)
 pub in-place : (p : ℕ) (r : Row) → ltb 0 (placed p r) ≡ false → placed p r ≡ 0
 in-place p r e = omega (arith, ltb-false 0 (placed p r) e)
 
-unfoldable pub misplacedNumber : ℕ → ℕ → ℕ
-misplacedNumber p q = cond (eqb q p) 6 5
-
-pub number-parent : (p q : ℕ) → q ≢ p → 5 ≡ misplacedNumber p q
-unfolding misplacedNumber
-number-parent p q h = rw (ne-eqb q p h)
-
-pub number-child : (p q : ℕ) → q ≡ p → 6 ≡ misplacedNumber p q
-unfolding misplacedNumber
-number-child p q h = rw (eq-eqb q p h)
-
-pub misplaced-number : (p : ℕ) (r : Row) → placed p r ≢ 0 → misplacedNumber p (r .2) ≡ placed p r
-unfolding placed misplacedNumber
-misplaced-number p r d = go (eqb (r .2) p) (not (childrenBelow p r)) d
+-- such a row is refused with 5 or 6
+pub misplaced-verdict : (p : ℕ) (r : Row) → placed p r ≢ 0 → cond (eqb (r .2) p) 6 5 ≡ placed p r
+unfolding placed
+misplaced-verdict p r d = go (eqb (r .2) p) (not (childrenBelow p r)) d
   where
     go : (a b : Bool) → firstOf (not a) b false ≢ 0 → cond a 6 5 ≡ firstOf (not a) b false
     go false b h = refl
     go true true h = refl
     go true false h = absurd (h refl)
-
--- the number of a row's refusal: 5, 6, else 7
-unfoldable pub rowNumber : ℕ → ℕ
-rowNumber x = cond (eqb x 5) 5 (cond (eqb x 6) 6 7)
-
--- a verdict that is not 0 is such a number
-pub verdict-number : (named : ℕ → Bool) (p : ℕ) (r : Row) → verdict named p r ≢ 0 → rowNumber (verdict named p r) ≡ verdict named p r
-unfolding verdict rowNumber
-verdict-number named p r d = go (not (eqb (r .2) p)) (not (childrenBelow p r)) (namedTwice named r) d
-  where
-    go : (a b c : Bool) → firstOf a b c ≢ 0 → cond (eqb (firstOf a b c) 5) 5 (cond (eqb (firstOf a b c) 6) 6 7) ≡ firstOf a b c
-    go true b c h = refl
-    go false true c h = refl
-    go false false true h = refl
-    go false false false h = absurd (h refl)

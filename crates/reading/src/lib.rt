@@ -1,22 +1,25 @@
 // The rows of a table that is read, checked and added one by one.
 ghost use mathlib.Core.Path.{_≡_};
 ghost use mathlib.Core.List.{List, _++_};
-ghost use Prim.Native.Nat.{ℕ, _+_, _-_, _*_, _≤_, _<_};
+ghost use Prim.Native.Nat.{_+_, _-_, _*_, _≤_, _<_};
 ghost use lib.ListN.{length, drop, set};
 ghost use Rattle.order.specs.Walk.{cell};
 ghost use lib.Dec.{ltb};
-ghost use Rattle.reading.specs.Verdict.{placed, misplacedNumber};
+ghost use Rattle.reading.specs.Verdict.{placed};
 ghost use Rattle.reading.specs.Reading.{Reads};
-ghost use Rattle.reading.specs.Told.{HasRead, Told};
+ghost use Rattle.reading.specs.Told.{misplacement, HasRead, Told};
 ghost use Rattle.reading.specs.Children.{Children, Added};
 ghost use Rattle.rules.specs.Order.{vectorOf};
 ghost use Rattle.rules.specs.Table.{Row, tableTree};
 use vector::wide;
 
-// The number of the refusal of a row, or 0, and which row it is.
-pub struct Found {
-    pub number: u8,
-    pub row: usize,
+// What the rows of a table are found to be: accepted; or the first row that is refused, for its parent, for a child that is not
+// below its parent, or for a child that was named before.
+pub enum Found {
+    Accepted,
+    Parent(usize),
+    Child(usize),
+    NamedBefore(usize),
 }
 
 // Is a row, whose parent must be p, refused for its numbers?
@@ -32,14 +35,14 @@ fn misplaced(p: usize, l: usize, r: usize, parent: usize) -> bool
     p <= r
 }
 
-// The number of the refusal of such a row. It is worked out apart from the test, since few rows need it.
-fn misplaced_number(p: usize, parent: usize) -> u8
-    ensures { λ x. ⌜ x ≡ misplacedNumber p parent ⌝ }
+// What is found of such a row t. It is worked out apart from the test, since few rows need it.
+fn misplacement(p: usize, parent: usize, t: usize) -> Found
+    ensures { λ f. ⌜ f ≡ misplacement p parent t ⌝ }
 {
     if parent != p {
-        return 5;
+        return Found::Parent(t);
     }
-    6
+    Found::Child(t)
 }
 
 // The name of node c, or 65535 where a row has named it as a child: from now on this one has.
@@ -74,20 +77,19 @@ fn read_rows(
         let r = wide(rows[3 * t + 1]);
         let parent = wide(rows[3 * t + 2]);
         if misplaced(p, l, r, parent) {
-            let v = misplaced_number(p, parent);
-            return Found { number: v, row: t };
+            return misplacement(p, parent, t);
         }
         let x = take_name(names, l);
         let y = take_name(names, r);
         let s = x + y;
         if 65535 <= s {
-            return Found { number: 7, row: t };
+            return Found::NamedBefore(t);
         }
         let i = order::greater(x, y);
         order::add_pair(names, lows, small, next, last, p, l, r, s - i, i);
         t += 1;
     }
-    Found { number: 0, row: 0 }
+    Found::Accepted
 }
 
 // Reads a table with n leaves: the first row that is refused, or none, and then vector begins with the vector of its tree.
@@ -101,7 +103,7 @@ pub fn table_vector(n: usize, rows: &[u16], vector: &mut [u16]) -> Found
     let mut next = [0u16; 1024];
     let mut last = [0u16; 1024];
     vector::number_leaves(&mut names, n);
-    let found = read_rows(
+    match read_rows(
         n,
         rows,
         &mut names,
@@ -109,11 +111,15 @@ pub fn table_vector(n: usize, rows: &[u16], vector: &mut [u16]) -> Found
         &mut small,
         &mut next,
         &mut last,
-    );
-    if found.number == 0 {
-        order::vector_of(n, &small, &next, &last, vector);
+    ) {
+        Found::Parent(t) => Found::Parent(t),
+        Found::Child(t) => Found::Child(t),
+        Found::NamedBefore(t) => Found::NamedBefore(t),
+        Found::Accepted => {
+            order::vector_of(n, &small, &next, &last, vector);
+            Found::Accepted
+        }
     }
-    found
 }
 
 // Adds the rows of n leaves with these children, which are known to be accepted.

@@ -1,18 +1,16 @@
 -- What from_table makes of accepted rows.
--- Main results: vector-count, told-front.
+-- Main results: vector-count, read-front.
 use mathlib.Core.List.{List, _++_}
 use mathlib.Core.Option.{none}
-use mathlib.Core.Path.{_≡_, refl, sym, ap, _∙_}
+use mathlib.Core.Path.{_≡_, ap, _∙_}
 use Prim.Native.Nat.{ℕ, _-_, _*_, _≤_}
-use lib.ListN.{length, take, drop}
+use lib.ListN.{length, take}
 use lib.Seq.{take-at}
 use Rattle.rules.specs.Order.{vectorOf}
 use Rattle.rules.specs.Table.{rowsOf, tableFault, tableTree}
 use Rattle.rows.specs.Forest.{rows-make-a-tree}
 use Rattle.laws.specs.OneToOne.{every-tree}
 use Rattle.reading.specs.RowAt.{rows-count}
-use Rattle.reading.specs.Told.{Told}
-use Rattle.reading.specs.declared.Found.{Found}
 
 -- the vector of accepted rows has an entry for each leaf
 pub vector-count : (n : ℕ) (xs : List ℕ) → 1 ≤ n → length xs ≡ 3 * (n - 1) → tableFault n (rowsOf xs) ≡ none → length (vectorOf (tableTree n (rowsOf xs))) ≡ n
@@ -20,6 +18,6 @@ vector-count n xs h e f =
     every-tree n (tableTree n (rowsOf xs)) (rows-make-a-tree n (rowsOf xs) f (rows-count (n - 1) xs e) h) .entries
 
 -- the vector at the front of the array that was read into
-pub told-front : {n : ℕ} {xs old vector : List ℕ} {r : Found} → Told n xs old vector r → r .number ≡ 0 → length (vectorOf (tableTree n (rowsOf xs))) ≡ n
+pub read-front : (n : ℕ) (xs vector rest : List ℕ) → vector ≡ vectorOf (tableTree n (rowsOf xs)) ++ rest → length (vectorOf (tableTree n (rowsOf xs))) ≡ n
     → take n vector ≡ vectorOf (tableTree n (rowsOf xs))
-told-front {n} {xs} {old} {vector} T e l = ap (take n) (T .made e) ∙ take-at (vectorOf (tableTree n (rowsOf xs))) (drop n old) n l
+read-front n xs vector rest e l = ap (take n) e ∙ take-at (vectorOf (tableTree n (rowsOf xs))) rest n l

@@ -1,5 +1,6 @@
 // The public calls. Each keeps its promise for all inputs: its answer and every element of every lent buffer, as the crate `rules`
 // says it (Promise), for the call that stands there in a file of its own.
+use reading::Found;
 use rules::Answer;
 use rules::Kind;
 use rules::Refusal;
@@ -17,7 +18,6 @@ ghost use Rattle.rules.specs.CallPack.{pack-call};
 ghost use Rattle.rules.specs.CallUnpack.{unpack-call};
 ghost use Rattle.rules.specs.CallShuffle.{shuffle-call};
 ghost use Rattle.rules.specs.CallRelabel.{relabel-call};
-ghost use Rattle.reading.specs.Verdict.{rowNumber};
 
 // Whether v is a vector: 1, 4.
 pub fn check(v: &[u16]) -> Answer
@@ -69,28 +69,18 @@ pub fn from_table(leaves: usize, rows: &[u16], out: &mut [u16]) -> Answer
         return refuse(Kind::InputLength, wanted);
     }
     let mut vector = [0u16; 1024];
-    let found = reading::table_vector(leaves, rows, &mut vector);
-    if found.number != 0 {
-        return refuse(row_kind(found.number), found.row);
+    match reading::table_vector(leaves, rows, &mut vector) {
+        Found::Parent(t) => refuse(Kind::Parent, t),
+        Found::Child(t) => refuse(Kind::Child, t),
+        Found::NamedBefore(t) => refuse(Kind::NamedBefore, t),
+        Found::Accepted => {
+            if out.len() < leaves {
+                return refuse(Kind::Room, leaves);
+            }
+            vector::copy_out(&vector, leaves, out);
+            Answer::Done(leaves)
+        }
     }
-    if out.len() < leaves {
-        return refuse(Kind::Room, leaves);
-    }
-    vector::copy_out(&vector, leaves, out);
-    Answer::Done(leaves)
-}
-
-// The kind of a row's refusal.
-fn row_kind(number: u8) -> Kind
-    ensures { λ r. ⌜ numberOf r ≡ rowNumber number ⌝ }
-{
-    if number == 5 {
-        return Kind::Parent;
-    }
-    if number == 6 {
-        return Kind::Child;
-    }
-    Kind::NamedBefore
 }
 
 // Vector to Newick: 1, 4, 3.

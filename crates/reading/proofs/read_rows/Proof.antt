@@ -1,7 +1,8 @@
+-- `read_rows` meets its contract: the first t rows are read, and none of them is refused.
 use mathlib.Core.Path.{_≡_, refl, sym, _∙_}
 use Prim.Native.Nat.{_-_}
-use Rattle.reading.specs.Reading.{Reads, Lengths, reads-inside, reads-few, adds-some, reads-next}
-use Rattle.reading.specs.Told.{read-placed, read-named, read-all}
+use Rattle.reading.specs.Reading.{Reads, Lengths, Row-at, reads-inside, reads-few, adds-some, reads-next, reads-end}
+use Rattle.reading.specs.Told.{read-placed, read-named}
 use native.Mathlib.Omega.{arith}
 use borrow.Author.Needs.{needs}
 use Rattle.reading.proofs.read_rows.Statement.{statement}
@@ -13,6 +14,18 @@ Inv-loop n rows names₀ lows₀ small₀ next₀ last₀ count t₀ names lows 
 
 abbrev μ-loop : tie.MeasureT-loop
 μ-loop n rows names₀ lows₀ small₀ next₀ last₀ count t₀ names lows small next last t = count - t
+
+-- the row that was read, where it is tested
+row : (c : tie.After-misplaced Inv-loop μ-loop)
+    → Row-at (c .before .before .before .before .before .before .before .before .before .before .before .before .before .before .before .args .n)
+    (c .before .before .before .before .before .before .before .before .before .before .before .before .before .before .before .args .rows .now)
+    (c .before .before .before .before .before .before .before .before .loop .t) (c .before .before .before .before .before .wide .result) (c .before .before .before .wide2 .result) (c .before .wide3 .result)
+row c = record {
+  inside = omega (arith, c .before .before .before .before .before .before .before .loop-test .taken, c .before .before .before .before .before .before .before .before .loop .inv .2);
+  first = sym (c .before .before .before .before .before .wide .ensures);
+  second = sym (c .before .before .before .wide2 .ensures);
+  parent = sym (c .before .wide3 .ensures);
+}
 
 sub-count : tie.Need-sub-count Inv-loop μ-loop
 sub-count c = search needs
@@ -68,8 +81,8 @@ wide-requires-3 c κs = search needs
 misplaced-requires : tie.Need-misplaced-requires Inv-loop μ-loop
 misplaced-requires c κs = search needs
 
-misplaced-number-requires : tie.Need-misplaced-number-requires Inv-loop μ-loop
-misplaced-number-requires c κs = search needs
+misplacement-requires : tie.Need-misplacement-requires Inv-loop μ-loop
+misplacement-requires c κs = search needs
 
 same-length : tie.Need-same-length Inv-loop μ-loop
 same-length c = search needs
@@ -87,16 +100,25 @@ same-length-5 : tie.Need-same-length-5 Inv-loop μ-loop
 same-length-5 c = search needs
 
 returns : tie.Need-returns Inv-loop μ-loop
-returns c = read-placed (c .before .before .before .before .before .before .before .before .before .before .loop .inv .0) (record { inside = omega arith; first = sym (c .before .before .before .before .before .before .before .wide .ensures); second = sym (c .before .before .before .before .before .wide2 .ensures); parent = sym (c .before .before .before .wide3 .ensures) }) (sym (c .before .before .misplaced .ensures) ∙ c .before .if1 .taken) (c .misplaced-number .ensures)
+returns c = let m = c .before .before in
+    read-placed _ (m .before .before .before .before .before .before .before .before .loop .inv .0) (row m) (sym (m .misplaced .ensures) ∙ c .before .if1 .taken) (c .misplacement .ensures)
 
 take-name-requires : tie.Need-take-name-requires Inv-loop μ-loop
-take-name-requires c κs = reads-inside (c .before .before .before .before .before .before .before .before .before .before .loop .inv .0) (record { inside = omega arith; first = sym (c .before .before .before .before .before .before .before .wide .ensures); second = sym (c .before .before .before .before .before .wide2 .ensures); parent = sym (c .before .before .before .wide3 .ensures) }) (sym (c .before .before .misplaced .ensures) ∙ c .before .if1 .left) .0
+take-name-requires c κs = let m = c .before .before in
+    reads-inside (m .before .before .before .before .before .before .before .before .loop .inv .0) (row m) (sym (m .misplaced .ensures) ∙ c .before .if1 .left) .0
 
 take-name-requires-2 : tie.Need-take-name-requires-2 Inv-loop μ-loop
-take-name-requires-2 c κs = omega (arith, c .before .before .before .take-name .kept, reads-inside (c .before .before .before .before .before .before .before .before .before .before .before .before .before .before .loop .inv .0) (record { inside = omega arith; first = sym (c .before .before .before .before .before .before .before .before .before .before .before .wide .ensures); second = sym (c .before .before .before .before .before .before .before .before .before .wide2 .ensures); parent = sym (c .before .before .before .before .before .before .before .wide3 .ensures) }) (sym (c .before .before .before .before .before .before .misplaced .ensures) ∙ c .before .before .before .before .before .if1 .left))
+take-name-requires-2 c κs = let m = c .before .before .before .before .before .before in
+    let inside = reads-inside (m .before .before .before .before .before .before .before .before .loop .inv .0) (row m) (sym (m .misplaced .ensures) ∙ c .before .before .before .before .before .if1 .left) in
+    omega (arith, c .before .before .before .take-name .kept)
 
 add-s : tie.Need-add-s Inv-loop μ-loop
-add-s c = omega (arith, reads-few (c .before .before .before .before .before .before .before .before .before .before .before .before .before .before .before .before .before .loop .inv .0) (record { inside = omega arith; first = sym (c .before .before .before .before .before .before .before .before .before .before .before .before .before .before .wide .ensures); second = sym (c .before .before .before .before .before .before .before .before .before .before .before .before .wide2 .ensures); parent = sym (c .before .before .before .before .before .before .before .before .before .before .wide3 .ensures) }) (sym (c .before .before .before .before .before .before .before .before .before .misplaced .ensures) ∙ c .before .before .before .before .before .before .before .before .if1 .left) (c .before .before .before .before .before .before .take-name .ensures .0) (c .before .before .before .before .before .before .take-name .ensures .1) (c .before .before .take-name2 .ensures .0) (c .before .before .take-name2 .ensures .1))
+add-s c = let m = c .before .before .before .before .before .before .before .before .before in
+    let placed = sym (m .misplaced .ensures) ∙ c .before .before .before .before .before .before .before .before .if1 .left in
+    let x = c .before .before .before .before .before .before .take-name in
+    let y = c .before .before .take-name2 in
+    let few = reads-few (m .before .before .before .before .before .before .before .before .loop .inv .0) (row m) placed (x .ensures .0) (x .ensures .1) (y .ensures .0) (y .ensures .1) in
+    omega arith
 
 same-length-6 : tie.Need-same-length-6 Inv-loop μ-loop
 same-length-6 c = search needs
@@ -114,7 +136,11 @@ same-length-10 : tie.Need-same-length-10 Inv-loop μ-loop
 same-length-10 c = search needs
 
 returns-2 : tie.Need-returns-2 Inv-loop μ-loop
-returns-2 c = read-named (c .before .before .before .before .before .before .before .before .before .before .before .before .before .before .before .before .before .before .loop .inv .0) (record { inside = omega arith; first = sym (c .before .before .before .before .before .before .before .before .before .before .before .before .before .before .before .wide .ensures); second = sym (c .before .before .before .before .before .before .before .before .before .before .before .before .before .wide2 .ensures); parent = sym (c .before .before .before .before .before .before .before .before .before .before .before .wide3 .ensures) }) (sym (c .before .before .before .before .before .before .before .before .before .before .misplaced .ensures) ∙ c .before .before .before .before .before .before .before .before .before .if1 .left) (c .before .before .before .before .before .before .before .take-name .ensures .0) (c .before .before .before .before .before .before .before .take-name .ensures .1) (c .before .before .before .take-name2 .ensures .0) (c .before .before .before .take-name2 .ensures .1) (c .if2 .taken)
+returns-2 c = let m = c .before .before .before .before .before .before .before .before .before .before in
+    let placed = sym (m .misplaced .ensures) ∙ c .before .before .before .before .before .before .before .before .before .if1 .left in
+    let x = c .before .before .before .before .before .before .before .take-name in
+    let y = c .before .before .before .take-name2 in
+    read-named (m .before .before .before .before .before .before .before .before .loop .inv .0) (row m) placed (x .ensures .0) (x .ensures .1) (y .ensures .0) (y .ensures .1) (c .if2 .taken)
 
 greater-requires : tie.Need-greater-requires Inv-loop μ-loop
 greater-requires c κs = search needs
@@ -123,21 +149,41 @@ sub-add-pair : tie.Need-sub-add-pair Inv-loop μ-loop
 sub-add-pair c = omega (arith, c .before .before .before .before .before .greater .ensures)
 
 add-pair-requires : tie.Need-add-pair-requires Inv-loop μ-loop
-add-pair-requires c κs = adds-some (c .before .before .before .before .before .before .before .before .before .before .before .before .before .before .before .before .before .before .before .before .before .before .before .before .loop .inv .0) (record { inside = omega arith; first = sym (c .before .before .before .before .before .before .before .before .before .before .before .before .before .before .before .before .before .before .before .before .before .wide .ensures); second = sym (c .before .before .before .before .before .before .before .before .before .before .before .before .before .before .before .before .before .before .before .wide2 .ensures); parent = sym (c .before .before .before .before .before .before .before .before .before .before .before .before .before .before .before .before .before .wide3 .ensures) }) (sym (c .before .before .before .before .before .before .before .before .before .before .before .before .before .before .before .before .misplaced .ensures) ∙ c .before .before .before .before .before .before .before .before .before .before .before .before .before .before .before .if1 .left) (c .before .before .before .before .before .before .before .before .before .before .before .before .before .take-name .ensures .0) (c .before .before .before .before .before .before .before .before .before .before .before .before .before .take-name .ensures .1) (c .before .before .before .before .before .before .before .before .before .take-name2 .ensures .0) (c .before .before .before .before .before .before .before .before .before .take-name2 .ensures .1) (c .before .before .before .before .before .before .if2 .left) (c .before .before .before .before .before .greater .ensures)
+add-pair-requires c κs = let m = c .before .before .before .before .before .before .before .before .before .before .before .before .before .before .before .before in
+    let placed = sym (m .misplaced .ensures) ∙ c .before .before .before .before .before .before .before .before .before .before .before .before .before .before .before .if1 .left in
+    let x = c .before .before .before .before .before .before .before .before .before .before .before .before .before .take-name in
+    let y = c .before .before .before .before .before .before .before .before .before .take-name2 in
+    adds-some (m .before .before .before .before .before .before .before .before .loop .inv .0) (row m) placed (x .ensures .0) (x .ensures .1) (y .ensures .0) (y .ensures .1) (c .before .before .before .before .before .before .if2 .left) (c .before .before .before .before .before .greater .ensures)
 
 add-t : tie.Need-add-t Inv-loop μ-loop
-add-t c = omega (arith, c .before .before .before .before .before .before .before .before .before .before .before .before .before .before .before .before .before .before .before .before .before .before .before .before .before .before .before .before .before .before .before .before .before .before .loop-test .taken, c .before .before .before .before .before .before .before .before .before .before .before .before .before .before .before .before .before .before .before .before .before .before .before .before .before .before .before .before .before .before .before .before .before .before .before .loop .inv .2, c .before .before .before .before .before .before .before .before .before .before .before .before .before .before .before .before .before .before .before .before .before .before .before .before .before .before .before .before .before .before .before .before .before .before .before .before .before .before .before .before .before .before .pre .few)
+add-t c =
+    let m = c .before .before .before .before .before .before .before .before .before .before .before .before .before .before .before .before .before .before .before .before .before .before .before .before .before .before .before in
+    let P = m .before .before .before .before .before .before .before .before .before .before .before .before .before .before .before .pre in
+    omega (arith, m .before .before .before .before .before .before .before .loop-test .taken, m .before .before .before .before .before .before .before .before .loop .inv .2, P .few)
 
 loop-less : tie.Need-loop-less Inv-loop μ-loop
 loop-less c = search needs
 
 loop-again : tie.Need-loop-again Inv-loop μ-loop
-loop-again c = (
-  reads-next (c .before .before .before .before .before .before .before .before .before .before .before .before .before .before .before .before .before .before .before .before .before .before .before .before .before .before .before .before .before .before .before .before .before .before .before .loop .inv .0) (record { inside = omega arith; first = sym (c .before .before .before .before .before .before .before .before .before .before .before .before .before .before .before .before .before .before .before .before .before .before .before .before .before .before .before .before .before .before .before .before .wide .ensures); second = sym (c .before .before .before .before .before .before .before .before .before .before .before .before .before .before .before .before .before .before .before .before .before .before .before .before .before .before .before .before .before .before .wide2 .ensures); parent = sym (c .before .before .before .before .before .before .before .before .before .before .before .before .before .before .before .before .before .before .before .before .before .before .before .before .before .before .before .before .wide3 .ensures) }) (sym (c .before .before .before .before .before .before .before .before .before .before .before .before .before .before .before .before .before .before .before .before .before .before .before .before .before .before .before .misplaced .ensures) ∙ c .before .before .before .before .before .before .before .before .before .before .before .before .before .before .before .before .before .before .before .before .before .before .before .before .before .before .if1 .left) (c .before .before .before .before .before .before .before .before .before .before .before .before .before .before .before .before .before .before .before .before .before .before .before .before .take-name .ensures .0) (c .before .before .before .before .before .before .before .before .before .before .before .before .before .before .before .before .before .before .before .before .before .before .before .before .take-name .ensures .1) (c .before .before .before .before .before .before .before .before .before .before .before .before .before .before .before .before .before .before .before .before .take-name2 .ensures .0) (c .before .before .before .before .before .before .before .before .before .before .before .before .before .before .before .before .before .before .before .before .take-name2 .ensures .1)
-      (c .before .before .before .before .before .before .before .before .before .before .before .before .before .before .before .before .before .if2 .left) (c .before .before .before .before .before .before .before .before .before .before .before .before .before .before .before .before .greater .ensures) (c .before .before .before .before .before .before .before .before .before .before .add-pair .ensures .1) (c .before .before .before .before .before .before .before .before .before .before .add-pair .ensures .0),
-  record { of-names = omega (arith, c .before .before .before .before .before .before .before .before .before .before .add-pair .kept, c .before .before .before .before .before .before .before .before .before .before .before .before .before .before .before .before .before .before .before .before .take-name2 .kept, c .before .before .before .before .before .before .before .before .before .before .before .before .before .before .before .before .before .before .before .before .before .before .before .before .take-name .kept, c .before .before .before .before .before .before .before .before .before .before .before .before .before .before .before .before .before .before .before .before .before .before .before .before .before .before .before .before .before .before .before .before .before .before .before .loop .inv .1 .of-names); of-lows = omega (arith, c .before .before .before .before .before .before .before .before .before .before .add-pair .kept, c .before .before .before .before .before .before .before .before .before .before .before .before .before .before .before .before .before .before .before .before .before .before .before .before .before .before .before .before .before .before .before .before .before .before .before .loop .inv .1 .of-lows); of-small = omega (arith, c .before .before .before .before .before .before .before .before .before .before .add-pair .kept, c .before .before .before .before .before .before .before .before .before .before .before .before .before .before .before .before .before .before .before .before .before .before .before .before .before .before .before .before .before .before .before .before .before .before .before .loop .inv .1 .of-small); of-next = omega (arith, c .before .before .before .before .before .before .before .before .before .before .add-pair .kept, c .before .before .before .before .before .before .before .before .before .before .before .before .before .before .before .before .before .before .before .before .before .before .before .before .before .before .before .before .before .before .before .before .before .before .before .loop .inv .1 .of-next); of-last = omega (arith, c .before .before .before .before .before .before .before .before .before .before .add-pair .kept, c .before .before .before .before .before .before .before .before .before .before .before .before .before .before .before .before .before .before .before .before .before .before .before .before .before .before .before .before .before .before .before .before .before .before .before .loop .inv .1 .of-last) },
-  c .before .before .before .before .before .before .before .before .before .before .before .before .before .before .before .before .before .before .before .before .before .before .before .before .before .before .before .before .before .before .before .before .before .before .before .loop .inv .2,
-)
+loop-again c = let m = c .before .before .before .before .before .before .before .before .before .before .before .before .before .before .before .before .before .before .before .before .before .before .before .before .before .before .before in
+    let placed = sym (m .misplaced .ensures) ∙ c .before .before .before .before .before .before .before .before .before .before .before .before .before .before .before .before .before .before .before .before .before .before .before .before .before .before .if1 .left in
+    let x = c .before .before .before .before .before .before .before .before .before .before .before .before .before .before .before .before .before .before .before .before .before .before .before .before .take-name in
+    let y = c .before .before .before .before .before .before .before .before .before .before .before .before .before .before .before .before .before .before .before .before .take-name2 in
+    let added = c .before .before .before .before .before .before .before .before .before .before .add-pair in
+    let kept = added .kept in
+    let old = m .before .before .before .before .before .before .before .before .loop .inv .1 in (
+      reads-next (m .before .before .before .before .before .before .before .before .loop .inv .0) (row m) placed (x .ensures .0) (x .ensures .1) (y .ensures .0) (y .ensures .1)
+          (c .before .before .before .before .before .before .before .before .before .before .before .before .before .before .before .before .before .if2 .left)
+          (c .before .before .before .before .before .before .before .before .before .before .before .before .before .before .before .before .greater .ensures) (added .ensures .1) (added .ensures .0),
+      record {
+        of-names = omega (arith, x .kept, y .kept, old .of-names);
+        of-lows = omega (arith, old .of-lows);
+        of-small = omega (arith, old .of-small);
+        of-next = omega (arith, old .of-next);
+        of-last = omega (arith, old .of-last);
+      },
+      m .before .before .before .before .before .before .before .before .loop .inv .2,
+    )
 
 same-length-11 : tie.Need-same-length-11 Inv-loop μ-loop
 same-length-11 c = search needs
@@ -155,7 +201,7 @@ same-length-15 : tie.Need-same-length-15 Inv-loop μ-loop
 same-length-15 c = search needs
 
 returns-3 : tie.Need-returns-3 Inv-loop μ-loop
-returns-3 c = read-all (c .before .loop .inv .0) (omega arith)
+returns-3 c = reads-end (c .before .loop .inv .0) (omega arith)
 
 pub read-rows-spec : {M : Type 1} → statement M
 read-rows-spec =
@@ -181,7 +227,7 @@ read-rows-spec =
     shared-slice-read-wide-3
     wide-requires-3
     misplaced-requires
-    misplaced-number-requires
+    misplacement-requires
     same-length
     same-length-2
     same-length-3

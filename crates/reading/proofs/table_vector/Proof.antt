@@ -1,6 +1,7 @@
+-- `table_vector` meets its contract: what read_rows has found, and where that is no fault the vector.
 use Rattle.reading.specs.Leaves.{built-leaves}
 use Rattle.reading.specs.Reading.{reads-start}
-use Rattle.reading.specs.Told.{drawn, some-drawn, told-fault, told-vector}
+use Rattle.reading.specs.Told.{drawn, some-drawn}
 use borrow.Author.Needs.{needs}
 use Rattle.reading.proofs.table_vector.Statement.{statement}
 use Rattle.reading.proofs.table_vector.Tie as tie
@@ -27,7 +28,20 @@ slice-aggregate-read-rows-5 : tie.Need-slice-aggregate-read-rows-5
 slice-aggregate-read-rows-5 c = search needs
 
 read-rows-requires : tie.Need-read-rows-requires
-read-rows-requires c κs = reads-start (c .before .before .before .before .before .before .before .before .before .before .pre .0) (c .before .before .before .before .before .before .before .before .before .before .pre .1) (c .before .before .before .before .before .before .before .before .before .before .pre .2) (built-leaves (c .before .before .before .before .before .before .before .before .before .before .pre .1) (search needs) (c .before .before .before .before .before .before .number-leaves .ensures))
+read-rows-requires c κs = let P = c .before .before .before .before .before .before .before .before .before .before .pre in
+    reads-start (P .0) (P .1) (P .2) (built-leaves (P .1) (search needs) (c .before .before .before .before .before .before .number-leaves .ensures))
+
+enum-known-t : tie.Need-enum-known-t
+enum-known-t c = search needs
+
+enum-known-t-2 : tie.Need-enum-known-t-2
+enum-known-t-2 c = search needs
+
+enum-known-t-3 : tie.Need-enum-known-t-3
+enum-known-t-3 c = search needs
+
+enum-told : tie.Need-enum-told
+enum-told c = search needs
 
 slice-aggregate-vector-of : tie.Need-slice-aggregate-vector-of
 slice-aggregate-vector-of c = search needs
@@ -39,17 +53,25 @@ slice-aggregate-vector-of-3 : tie.Need-slice-aggregate-vector-of-3
 slice-aggregate-vector-of-3 c = search needs
 
 vector-of-requires : tie.Need-vector-of-requires
-vector-of-requires c κs = (some-drawn (c .before .before .before .before .before .before .before .before .before .before .before .read-rows .ensures .all (c .before .before .before .before .if1 .taken)) (c .before .before .before .before .before .before .before .before .before .before .before .before .before .before .before .before .before .before .before .before .before .before .pre .0), c .before .before .before .before .before .before .before .before .before .before .before .before .before .before .before .before .before .before .before .before .before .before .pre .3)
+vector-of-requires c κs = let P = c .before .before .before .before .before .before .before .before .before .before .before .before .before .before .before .before .before .before .before .before .before .before .pre in
+    let all = rw (c .before .before .before .before .enum-told .given .1) at (c .before .before .before .before .before .before .before .before .before .before .before .read-rows .ensures) in
+    (some-drawn all (P .0), P .3)
+
+returns : tie.Need-returns
+returns c = rw (c .before .t .given .1) at (c .before .before .before .before .before .before .before .before .read-rows .ensures)
+
+returns-2 : tie.Need-returns-2
+returns-2 c = rw (c .before .t2 .given .1) at (c .before .before .before .before .before .before .before .before .read-rows .ensures)
+
+returns-3 : tie.Need-returns-3
+returns-3 c = rw (c .before .t3 .given .1) at (c .before .before .before .before .before .before .before .before .read-rows .ensures)
 
 same-length : tie.Need-same-length
 same-length c = search needs
 
-returns : tie.Need-returns
-returns c = let H = c .before .before .before .before .before .before .before .before .before .before .before .before .before .before .read-rows .ensures in
-    told-vector H (c .before .before .before .before .before .before .before .if1 .taken) (c .before .before .vector-of .ensures _ (drawn (H .all (c .before .before .before .before .before .before .before .if1 .taken)) (c .before .before .before .before .before .before .before .before .before .before .before .before .before .before .before .before .before .before .before .before .before .before .before .before .before .pre .0)))
-
-returns-2 : tie.Need-returns-2
-returns-2 c = told-fault (c .before .before .before .before .before .before .before .read-rows .ensures) (c .if1 .left)
+returns-4 : tie.Need-returns-4
+returns-4 c = let all = rw (c .before .before .before .before .before .before .before .enum-told .given .1) at (c .before .before .before .before .before .before .before .before .before .before .before .before .before .before .read-rows .ensures) in
+    (all .no-fault, c .before .before .vector-of .ensures _ (drawn all (c .before .before .before .before .before .before .before .before .before .before .before .before .before .before .before .before .before .before .before .before .before .before .before .before .before .pre .0)))
 
 pub table-vector-spec : {M : Type 1} → statement M
 table-vector-spec =
@@ -63,10 +85,16 @@ table-vector-spec =
     slice-aggregate-read-rows-4
     slice-aggregate-read-rows-5
     read-rows-requires
+    enum-known-t
+    enum-known-t-2
+    enum-known-t-3
+    enum-told
     slice-aggregate-vector-of
     slice-aggregate-vector-of-2
     slice-aggregate-vector-of-3
     vector-of-requires
-    same-length
     returns
-    returns-2)
+    returns-2
+    returns-3
+    same-length
+    returns-4)

@@ -1,17 +1,12 @@
+-- `from_table` meets its contract: what is found of the rows, and where they are accepted the room.
 use Rattle.laws.specs.Kept.{refused-early, short-room, full-list}
 use native.Mathlib.Omega.{arith}
 use borrow.Author.Needs.{needs}
 use Rattle.rules.specs.Answer as answers
 use Rattle.laws.specs.FromTable.{no-leaves, too-many-leaves, wrong-rows, row-refused, rows-accepted}
-use Rattle.trees.proofs.FromTable.{vector-count, told-front}
+use Rattle.trees.proofs.FromTable.{vector-count, read-front}
 use Rattle.trees.proofs.from_table.Statement.{statement}
 use Rattle.trees.proofs.from_table.Tie as tie
-use Rattle.trees.proofs.from_table.Reads as reads
-use Rattle.trees.proofs.from_table.Lts as lts
-use Rattle.reading.proofs.table_vector.Reads as table-vector-reads
-use Rattle.trees.proofs.refuse.Reads as refuse-reads
-use Rattle.trees.proofs.row_kind.Reads as row-kind-reads
-use Rattle.vector.proofs.copy_out.Reads as copy-out-reads
 
 refuse-requires : tie.Need-refuse-requires
 refuse-requires c κs = search needs
@@ -46,23 +41,36 @@ slice-aggregate-table-vector c = search needs
 table-vector-requires : tie.Need-table-vector-requires
 table-vector-requires c κs = search needs
 
-row-kind-requires : tie.Need-row-kind-requires
-row-kind-requires c κs = search needs
+enum-known-t : tie.Need-enum-known-t
+enum-known-t c = search needs
 
 refuse-requires-4 : tie.Need-refuse-requires-4
 refuse-requires-4 c κs = search needs
 
-returns-4 : tie.Need-returns-4
-unfolding answers.reads
-returns-4 c = refused-early _ (row-refused _ _ _ (omega arith) (c .before .before .before .before .before .before .before .before .if2 .left) (c .before .before .before .before .before .before .before .if3 .left) (c .before .before .before .before .before .table-vector .ensures .found (c .before .before .if4 .taken))) (rw (c .before .row-kind .ensures) at (c .refuse4 .ensures))
+enum-known-t-2 : tie.Need-enum-known-t-2
+enum-known-t-2 c = search needs
 
 refuse-requires-5 : tie.Need-refuse-requires-5
 refuse-requires-5 c κs = search needs
 
-returns-5 : tie.Need-returns-5
+enum-known-t-3 : tie.Need-enum-known-t-3
+enum-known-t-3 c = search needs
+
+refuse-requires-6 : tie.Need-refuse-requires-6
+refuse-requires-6 c κs = search needs
+
+enum-told : tie.Need-enum-told
+enum-told c = search needs
+
+refuse-requires-7 : tie.Need-refuse-requires-7
+refuse-requires-7 c κs = search needs
+
+returns-4 : tie.Need-returns-4
 unfolding answers.reads answers.numberOf
-returns-5 c = let f = c .before .before .before .before .before .table-vector .ensures .none-found (c .before .before .if4 .left) in
-    short-room _ _ (rows-accepted _ _ (omega arith) (c .before .before .before .before .before .before .before .before .if2 .left) (c .before .before .before .before .before .before .before .if3 .left) f) (vector-count _ _ (omega arith) (c .before .before .before .before .before .before .before .if3 .left) f) (c .before .if5 .taken) (c .refuse5 .ensures)
+returns-4 c = let read = rw (c .before .before .enum-told .given .1) at (c .before .before .before .before .before .table-vector .ensures) in
+    let rows = c .before .before .before .before .before .before .before .if3 .left in
+    let entries = vector-count _ _ (omega arith) rows (read .0) in
+    short-room _ _ (rows-accepted _ _ (omega arith) (c .before .before .before .before .before .before .before .before .if2 .left) rows (read .0)) entries (c .before .if4 .taken) (c .refuse7 .ensures)
 
 slice-aggregate-copy-out : tie.Need-slice-aggregate-copy-out
 slice-aggregate-copy-out c = search needs
@@ -70,15 +78,32 @@ slice-aggregate-copy-out c = search needs
 copy-out-requires : tie.Need-copy-out-requires
 copy-out-requires c κs = search needs
 
-same-length : tie.Need-same-length
-same-length c = search needs
+returns-5 : tie.Need-returns-5
+unfolding answers.reads answers.numberOf
+returns-5 c = let found = rw (c .before .before .t .given .1) at (c .before .before .before .before .before .table-vector .ensures) in
+    refused-early _ (row-refused _ _ _ (omega arith) (c .before .before .before .before .before .before .before .before .if2 .left) (c .before .before .before .before .before .before .before .if3 .left) found) (c .refuse4 .ensures)
 
 returns-6 : tie.Need-returns-6
 unfolding answers.reads answers.numberOf
-returns-6 c = let T = c .before .before .before .before .before .before .before .before .before .table-vector .ensures in
-    let f = T .none-found (c .before .before .before .before .before .before .if4 .left) in
-    let l = vector-count _ _ (omega arith) (c .before .before .before .before .before .before .before .before .before .before .before .if3 .left) f in
-    full-list _ _ (rows-accepted _ _ (omega arith) (c .before .before .before .before .before .before .before .before .before .before .before .before .if2 .left) (c .before .before .before .before .before .before .before .before .before .before .before .if3 .left) f) l (c .before .before .before .before .before .if5 .left) (rw (told-front T (c .before .before .before .before .before .before .if4 .left) l) at (c .before .before .copy-out .ensures))
+returns-6 c = let found = rw (c .before .before .t2 .given .1) at (c .before .before .before .before .before .table-vector .ensures) in
+    refused-early _ (row-refused _ _ _ (omega arith) (c .before .before .before .before .before .before .before .before .if2 .left) (c .before .before .before .before .before .before .before .if3 .left) found) (c .refuse5 .ensures)
+
+returns-7 : tie.Need-returns-7
+unfolding answers.reads answers.numberOf
+returns-7 c = let found = rw (c .before .before .t3 .given .1) at (c .before .before .before .before .before .table-vector .ensures) in
+    refused-early _ (row-refused _ _ _ (omega arith) (c .before .before .before .before .before .before .before .before .if2 .left) (c .before .before .before .before .before .before .before .if3 .left) found) (c .refuse6 .ensures)
+
+same-length : tie.Need-same-length
+same-length c = search needs
+
+returns-8 : tie.Need-returns-8
+unfolding answers.reads answers.numberOf
+returns-8 c = let args = c .before .before .before .before .before .before .before .before .before .before .before .before .before .before .before .before .args in
+    let read = rw (c .before .before .before .before .before .before .enum-told .given .1) at (c .before .before .before .before .before .before .before .before .before .table-vector .ensures) in
+    let rows = c .before .before .before .before .before .before .before .before .before .before .before .if3 .left in
+    let entries = vector-count _ _ (omega arith) rows (read .0) in
+    let front = read-front (args .leaves) (args .rows .now) _ _ (read .1) entries in
+    full-list _ _ (rows-accepted _ _ (omega arith) (c .before .before .before .before .before .before .before .before .before .before .before .before .if2 .left) rows (read .0)) entries (c .before .before .before .before .before .if4 .left) (rw front at (c .before .before .copy-out .ensures))
 
 pub from-table-spec : {M : Type 1} → statement M
 from-table-spec =
@@ -94,12 +119,19 @@ from-table-spec =
     returns-3
     slice-aggregate-table-vector
     table-vector-requires
-    row-kind-requires
+    enum-known-t
     refuse-requires-4
-    returns-4
+    enum-known-t-2
     refuse-requires-5
-    returns-5
+    enum-known-t-3
+    refuse-requires-6
+    enum-told
+    refuse-requires-7
+    returns-4
     slice-aggregate-copy-out
     copy-out-requires
+    returns-5
+    returns-6
+    returns-7
     same-length
-    returns-6)
+    returns-8)
