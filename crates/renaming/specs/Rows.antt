@@ -8,7 +8,7 @@ use native.Mathlib.Omega.{arith}
 use lib.ListN.{length, getD, take}
 use lib.Seq.{take-at}
 use Rattle.rules.specs.Vector.{entry, Valid}
-use Rattle.rules.specs.Tree.{Tree, leaf, treeOf, grown, LeavesBelow}
+use Rattle.rules.specs.Tree.{Tree, treeOf, LeavesBelow}
 use Rattle.rules.specs.Order.{vectorOf}
 use Rattle.rules.specs.Table.{Row, rowsFrom, tableFault, tableTree}
 use Rattle.rules.specs.Shuffle.{renamed, permutationFault, newOf}

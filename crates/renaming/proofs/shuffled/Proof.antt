@@ -86,9 +86,9 @@ same-length-2 : tie.Need-same-length-2
 same-length-2 c = search needs
 
 returns : tie.Need-returns
-returns c = let P = c .before .before .before .before .before .before .before .before .before .before .before .before .before .before .before .before .before .before .before .before .before .before .before .before .before .before .before .before .before .before .before .before .before .before .before .pre in
+returns c = let R = rows (c .before .before .before .before .before .before .before .before .before .before .before .before .before .before .before .before .before .before .before .before .before .before .before .before .before .before .before .before .before) in
     let N = labels (c .before .before .before .before .before .before .before .before .before .before .before .before .before .before .before .before .before .before .before .before .before) in
-    let front = renamed-front _ _ _ _ (P .0) (N .count) (N .no-fault) (c .before .before .before .before .before .before .before .before .before .before .before .before .before .rename-rows .ensures) in
+    let front = renamed-front _ _ _ _ (R .valid) (N .count) (N .no-fault) (c .before .before .before .before .before .before .before .before .before .before .before .before .before .rename-rows .ensures) in
     (rw (N .labels) at (c .before .before .before .before .before .before .before .copy-out .ensures), rw (N .labels) at (rw front at (c .before .before .copy-out2 .ensures)))
 
 pub shuffled-spec : {M : Type 1} → statement M
