@@ -9,7 +9,7 @@ use lib.ListN.{length, getD, set}
 use lib.Pow.{pow-mono, shr-shr}
 use Rattle.record_laws.specs.Number.{joined-lt}
 use Rattle.record_laws.specs.Window.{valueAt, wordAt, value-word}
-use Rattle.bits.specs.Four.{fourRead, fourOf}
+use Rattle.bits.specs.Fields.{fieldRead, fourRead, fourOf}
 
 module _ (s : List ℕ) (at w : ℕ) (b : (i : ℕ) → getD s i 0 < 256) (l : at / 8 + 8 ≤ length s) (f : w ≤ 14) where
   -- the word, with the last of four fields at the low end
@@ -41,7 +41,7 @@ module _ (s : List ℕ) (at w : ℕ) (b : (i : ℕ) → getD s i 0 < 256) (l : a
       → p ≡ e / 2 ^ (64 - at % 8 - 4 * w) / 2 ^ w / 2 ^ w / 2 ^ w % 2 ^ w → q ≡ e / 2 ^ (64 - at % 8 - 4 * w) / 2 ^ w / 2 ^ w % 2 ^ w
       → r ≡ e / 2 ^ (64 - at % 8 - 4 * w) / 2 ^ w % 2 ^ w → t ≡ e / 2 ^ (64 - at % 8 - 4 * w) % 2 ^ w
       → set (set (set (set out i p) (i + 1) q) (i + 2) r) (i + 3) t ≡ fourRead s at w out i
-  unfolding fourRead
+  unfolding fieldRead fourRead
   four-there out i {e} {p} {q} {r} {t} h a b c d =
       let f = four-values in
       rw (a, b, c, d, h, f .0, f .1, f .2, f .3)

@@ -1,2 +1,3 @@
 pub mod Pending
-pub mod Four
+pub mod Fields
+pub mod Moving

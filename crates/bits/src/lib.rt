@@ -1,9 +1,10 @@
 // Bit fields of any width, most significant bit first, read from bytes and written to bytes, by words of four or eight bytes.
 ghost use mathlib.Core.Path.{_≡_};
-ghost use Prim.Native.Nat.{ℕ, _+_, _*_, _/_, _%_, _≤_, _<_, _^_};
+ghost use Prim.Native.Nat.{ℕ, _+_, _*_, _%_, _≤_, _<_, _^_};
 ghost use lib.ListN.{length, getD};
 ghost use Rattle.record_laws.specs.Window.{valueAt, wordAt};
-ghost use Rattle.bits.specs.Four.{fourRead, fourOf};
+ghost use Rattle.bits.specs.Fields.{fieldRead, fourRead, fourOf, FieldInside, FourInside};
+ghost use Rattle.bits.specs.Moving.{atStart, movedOn};
 ghost use Rattle.bits.specs.Pending.{Put, wordStored};
 
 /// Bits on their way into bytes: those before byte `at` are whole, and byte `at` begins with the low `have` bits of `acc`.
@@ -75,18 +76,27 @@ fn low_bits(word: u64, width: u32) -> u16
 }
 
 // The number of `width` bits from bit `at` on.
-fn read_field(s: &[u8], at: usize, width: u32) -> u32
+fn field_at(s: &[u8], at: usize, width: u32) -> u16
     requires { ⌜ (width ≤ 16) × (at + width ≤ 8 * length (now s)) ⌝ }
     ensures { λ r. ⌜ r ≡ valueAt (now (s .entry)) at width ⌝ }
 {
     let o = (at % 8) as u32;
-    low_bits(four_at(s, at / 8) >> (32 - o - width), width) as u32
+    low_bits(four_at(s, at / 8) >> (32 - o - width), width)
 }
 
-/// Reads four fields of one width from bit `at` on into four places from `i` on, by one word, the last field first.
-pub fn read_four(s: &[u8], at: usize, width: u32, out: &mut [u16], i: usize)
-    requires { ⌜ (1 ≤ width) × (width ≤ 14) × (at / 8 + 8 ≤ length (now s)) × (i + 4 ≤ length (now out)) ⌝ }
-    ensures { λ _. ⌜ now (out .exit) ≡ fourRead (now (s .entry)) at width (now (out .entry)) i ⌝ }
+// Reads a field from bit `at` on into place i, and returns the bit behind it.
+fn read_field(s: &[u8], at: usize, width: u32, out: &mut [u16], i: usize) -> usize
+    requires { ⌜ FieldInside (now s) at width (length (now out)) i ⌝ }
+    ensures { λ r. ⌜ (r ≡ at + width) × (now (out .exit) ≡ fieldRead (now (s .entry)) at width (now (out .entry)) i) ⌝ }
+{
+    out[i] = field_at(s, at, width);
+    at + width as usize
+}
+
+// Reads four fields of one width into four places from i on, by one word, the last field first, and returns the bit behind them.
+fn read_four(s: &[u8], at: usize, width: u32, out: &mut [u16], i: usize) -> usize
+    requires { ⌜ FourInside (now s) at width (length (now out)) i ⌝ }
+    ensures { λ r. ⌜ (r ≡ at + 4 * width) × (now (out .exit) ≡ fourRead (now (s .entry)) at width (now (out .entry)) i) ⌝ }
 {
     let o = (at % 8) as u32;
     let d = eight_inside(s, at / 8) >> (64 - o - 4 * width);
@@ -97,6 +107,7 @@ pub fn read_four(s: &[u8], at: usize, width: u32, out: &mut [u16], i: usize)
     out[i + 1] = low_bits(b, width);
     out[i + 2] = low_bits(c, width);
     out[i + 3] = low_bits(d, width);
+    at + 4 * (width as usize)
 }
 
 // Stores the eight bytes of a word.
@@ -171,25 +182,35 @@ pub struct Reader<'a> {
     pub at: usize,
 }
 
-/// A reading position at bit `at`.
-pub fn reading_at<'a>(bytes: &'a [u8], at: usize) -> Reader<'a>
-    ensures { λ r. ⌜ (r .bytes ≡ bytes .entry) × (r .at ≡ at) ⌝ }
+/// A reading position at the first bit.
+pub fn reading<'a>(bytes: &'a [u8]) -> Reader<'a>
+    ensures { λ r. ⌜ r ≡ atStart (bytes .entry) ⌝ }
 {
-    Reader { bytes, at }
+    Reader { bytes, at: 0 }
 }
 
-/// The number of `width` bits from a reading position on.
-pub fn next_field<'a>(r: Reader<'a>, width: u32) -> u32
-    requires { ⌜ (width ≤ 16) × (r .at + width ≤ 8 * length (now (r .bytes))) ⌝ }
-    ensures { λ x. ⌜ x ≡ valueAt (now (r .entry .bytes)) (r .entry .at) width ⌝ }
+/// Reads a field into place i, and gives the position moved on behind it.
+pub fn next_field<'a>(r: Reader<'a>, width: u32, out: &mut [u16], i: usize) -> Reader<'a>
+    requires { ⌜ FieldInside (now (r .bytes)) (r .at) width (length (now out)) i ⌝ }
+    ensures { λ q. ⌜ (q ≡ movedOn width (r .entry)) × (now (out .exit) ≡ fieldRead (now (r .entry .bytes)) (r .entry .at) width (now (out .entry)) i) ⌝ }
 {
-    read_field(r.bytes, r.at, width)
+    let at = read_field(r.bytes, r.at, width, out, i);
+    Reader { bytes: r.bytes, at }
 }
 
-/// The number of `width` bits from bit `at` on, through a reading position. Its contract says nothing of one, so who calls it needs no walk by hand.
-pub fn field_at(s: &[u8], at: usize, width: u32) -> u32
-    requires { ⌜ (width ≤ 16) × (at + width ≤ 8 * length (now s)) ⌝ }
-    ensures { λ x. ⌜ x ≡ valueAt (now (s .entry)) at width ⌝ }
+/// The same for four fields of one width, into four places from i on.
+pub fn next_four<'a>(r: Reader<'a>, width: u32, out: &mut [u16], i: usize) -> Reader<'a>
+    requires { ⌜ FourInside (now (r .bytes)) (r .at) width (length (now out)) i ⌝ }
+    ensures { λ q. ⌜ (q ≡ movedOn (4 * width) (r .entry)) × (now (out .exit) ≡ fourRead (now (r .entry .bytes)) (r .entry .at) width (now (out .entry)) i) ⌝ }
 {
-    next_field(reading_at(s, at), width)
+    let at = read_four(r.bytes, r.at, width, out, i);
+    Reader { bytes: r.bytes, at }
+}
+
+/// Reads the first field into place 0. Its contract says nothing of a reading position, so who calls it needs no walk by hand.
+pub fn first_field(s: &[u8], width: u32, out: &mut [u16])
+    requires { ⌜ FieldInside (now s) 0 width (length (now out)) 0 ⌝ }
+    ensures { λ _. ⌜ now (out .exit) ≡ fieldRead (now (s .entry)) 0 width (now (out .entry)) 0 ⌝ }
+{
+    next_field(reading(s), width, out, 0);
 }

@@ -1,3 +1,5 @@
+mod Turning
+mod Again
 mod Table
 mod Runs
 mod Reading

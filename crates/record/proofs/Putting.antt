@@ -10,7 +10,7 @@ use Rattle.rules.specs.Record.{width, total, field, fields}
 use Rattle.record_laws.specs.Number.{field-joined}
 use Rattle.record_laws.specs.Width.{width-most, total-suc, total-mono}
 use Rattle.record_laws.specs.Fields.{Fit, fields-take}
-use Rattle.bits.specs.Four.{fourOf}
+use Rattle.bits.specs.Fields.{fourOf}
 use Rattle.bits.specs.Pending.{Put}
 use Rattle.bits.specs.declared.Pending.{Pending}
 use Rattle.record.specs.Runs.{Run}

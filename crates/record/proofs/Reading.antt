@@ -1,41 +1,58 @@
 -- While entries are read, one by one or four by four.
 -- Main definitions: Onward, Running. Main results: onward-one, onward-more, running-next, entries-read, set-value.
-use mathlib.Core.Path.{_≡_, refl, sym, ap, _∙_}
+use mathlib.Core.Path.{_≡_, refl, sym, ap, subst, _∙_}
 use mathlib.Core.Bool.{not}
 use mathlib.Core.List.{List, [], _∷_, _++_}
-use Prim.Native.Nat.{ℕ, zero, suc, _+_, _-_, _*_, _/_, _%_, _^_, _≤_, _<_}
+use Prim.Native.Nat.{ℕ, zero, suc, _+_, _-_, _*_, _/_, _%_, _^_, _≤_, _<_, min}
 use native.Mathlib.Nat.{le-trans}
 use native.Mathlib.Numerals.{add-one}
 use native.Mathlib.Omega.{arith}
 use lib.Dec.{eqb}
 use borrow.Author.Tests.{ne-eqb}
-use lib.ListN.{length, take, drop, set, length-set, length-drop}
+use denote.Ref.{RefT, now}
+use lib.ListN.{length, take, drop, getD, set, length-set, length-drop}
 use lib.Pow.{pow-pos, pow-mono}
-use lib.Seq.{take-suc-set, take-all}
+use lib.Seq.{take-suc-set, take-all, getD-set-same}
 use Rattle.rules.specs.Order.{listed}
-use Rattle.rules.specs.Record.{Bits, width, total, number, bitsOf, anySet}
+use Rattle.rules.specs.Record.{Bits, width, total, recordLength, number, bitsOf, anySet}
 use Rattle.record_laws.specs.Number.{AreBits, are-drop, number-cons}
 use Rattle.record_laws.specs.Bytes.{are-bits, length-bits}
-use Rattle.record_laws.specs.Width.{width-most, total-suc, total-mono, total-least, total-one}
+use Rattle.record_laws.specs.Width.{width-most, total-suc, total-mono, total-least, total-one, record-length-bits, record-length-most}
 use Rattle.record_laws.specs.Window.{valueAt, value-lt}
 use Rattle.record_laws.specs.Fields.{entryFrom, entriesFrom, total-header}
-use Rattle.bits.specs.Four.{fourRead}
+use Rattle.bits.specs.declared.Reader.{Reader}
+use Rattle.bits.specs.Fields.{fieldRead, fourRead, FieldInside, FourInside}
 use Rattle.record.specs.Runs.{Run}
-use Rattle.record.specs.Reading.{Reading, Read, Left}
+use Rattle.record.specs.Reading.{Reading, Read, Left, Parts}
 use Rattle.record.proofs.Runs.{run-four, run-wide}
 
--- no entry is read
-read-none : (s : List ℕ) (at i : ℕ) (out : List ℕ) → Read s at i i out at out
-read-none s at i out = record { ends = refl; reads = λ start r. r }
+-- The entries from i to end are read, the first of them from bit at on, wherever the fields start; bit next is the one behind them.
+pub record Passed (s : List ℕ) (at i end : ℕ) (before : List ℕ) (next : ℕ) (after : List ℕ) : Type 0 where
+  pub ends : next + total i ≡ at + total end
+  pub reads : (start : ℕ) → Reading s start at i before → Reading s start next end after
 
-pub read-then : {s : List ℕ} {at i m end : ℕ} {a b d : List ℕ} {q r : ℕ} → Read s at i m a q b → Read s q m end b r d → Read s at i end a r d
-read-then f g = record { ends = omega arith; reads = λ start r. g .reads start (f .reads start r) }
+-- the same of a reading position, there and back
+module _ (d : Reader) {i end : ℕ} {before after : List ℕ} (h : i ≤ end) where
+  pub passed-read : {next : ℕ} → Passed (now (d .bytes)) (d .at) i end before next after → Read d i end before (record { bytes = d .bytes; at = next }) after
+  passed-read {next} p =
+      let e : next ≡ d .at + (total end - total i) = omega (arith, p .ends, total-mono i end h) in
+      record { moved = ap (λ (n : ℕ). record { bytes = d .bytes; at = n }) e; reads = p .reads }
+
+  pub read-passed : {q : Reader} → Read d i end before q after → Passed (now (d .bytes)) (d .at) i end before (q .at) after
+  read-passed {q} r = record { ends = omega (arith, ap (λ (p : Reader). p .at) (r .moved), total-mono i end h); reads = r .reads }
+
+-- no entry is read
+passed-none : (s : List ℕ) (at i : ℕ) (out : List ℕ) → Passed s at i i out at out
+passed-none s at i out = record { ends = refl; reads = λ start r. r }
+
+pub passed-then : {s : List ℕ} {at i m end : ℕ} {a b d : List ℕ} {q r : ℕ} → Passed s at i m a q b → Passed s q m end b r d → Passed s at i end a r d
+passed-then f g = record { ends = omega arith; reads = λ start r. g .reads start (f .reads start r) }
 
 -- one entry is read
-read-one : (s : List ℕ) (at i : ℕ) (out : List ℕ) (next k x : ℕ) → next ≡ at + width i → k ≡ i + 1 → x ≡ valueAt s at (width i) → i < length out
-    → Read s at i k out next (set out i x)
+passed-one : (s : List ℕ) (at i : ℕ) (out : List ℕ) (next k x : ℕ) → next ≡ at + width i → k ≡ i + 1 → x ≡ valueAt s at (width i) → i < length out
+    → Passed s at i k out next (set out i x)
 unfolding entriesFrom entryFrom listed
-read-one s at i out next k x e f g h =
+passed-one s at i out next k x e f g h =
     rw (e, f, g)
     record {
       ends = rw (add-one i, total-suc i) (omega arith);
@@ -48,14 +65,14 @@ read-one s at i out next k x e f g h =
     }
 
 -- four entries of one width are read
-read-four : (s : List ℕ) (at i w : ℕ) (out : List ℕ) → i + 4 ≤ length out → ((j : ℕ) → i ≤ j → j < i + 4 → width j ≡ w)
-    → Read s at i (i + 4) out (at + 4 * w) (fourRead s at w out i)
-unfolding fourRead
-read-four s at i w out h e =
-    read-then (read-one s at i out (at + w) (i + 1) _ (rw (e i (omega arith) (omega arith))) refl (rw (e i (omega arith) (omega arith))) (omega arith))
-    (read-then (read-one s (at + w) (i + 1) _ (at + 2 * w) (i + 2) _ (rw (e (i + 1) (omega arith) (omega arith)) (omega arith)) (omega arith) (rw (e (i + 1) (omega arith) (omega arith))) (simp length-set (omega arith)))
-    (read-then (read-one s (at + 2 * w) (i + 2) _ (at + 3 * w) (i + 3) _ (rw (e (i + 2) (omega arith) (omega arith)) (omega arith)) (omega arith) (rw (e (i + 2) (omega arith) (omega arith))) (simp length-set (omega arith)))
-    (read-one s (at + 3 * w) (i + 3) _ (at + 4 * w) (i + 4) _ (rw (e (i + 3) (omega arith) (omega arith)) (omega arith)) (omega arith) (rw (e (i + 3) (omega arith) (omega arith))) (simp length-set (omega arith)))))
+passed-four : (s : List ℕ) (at i w : ℕ) (out : List ℕ) → i + 4 ≤ length out → ((j : ℕ) → i ≤ j → j < i + 4 → width j ≡ w)
+    → Passed s at i (i + 4) out (at + 4 * w) (fourRead s at w out i)
+unfolding fieldRead fourRead
+passed-four s at i w out h e =
+    passed-then (passed-one s at i out (at + w) (i + 1) _ (rw (e i (omega arith) (omega arith))) refl (rw (e i (omega arith) (omega arith))) (omega arith))
+    (passed-then (passed-one s (at + w) (i + 1) _ (at + 2 * w) (i + 2) _ (rw (e (i + 1) (omega arith) (omega arith)) (omega arith)) (omega arith) (rw (e (i + 1) (omega arith) (omega arith))) (simp length-set (omega arith)))
+    (passed-then (passed-one s (at + 2 * w) (i + 2) _ (at + 3 * w) (i + 3) _ (rw (e (i + 2) (omega arith) (omega arith)) (omega arith)) (omega arith) (rw (e (i + 2) (omega arith) (omega arith))) (simp length-set (omega arith)))
+    (passed-one s (at + 3 * w) (i + 3) _ (at + 4 * w) (i + 4) _ (rw (e (i + 3) (omega arith) (omega arith)) (omega arith)) (omega arith) (rw (e (i + 3) (omega arith) (omega arith))) (simp length-set (omega arith)))))
 
 -- fewer entries are left
 left-fewer : {s : List ℕ} {at i end behind room : ℕ} (m : ℕ) → Left s at i end behind room → i ≤ m → m ≤ end → Left s at i m behind room
@@ -74,10 +91,10 @@ pub record Onward (s : List ℕ) (at₀ i₀ end behind : ℕ) (out₀ : List �
   pub same : length out ≡ length out₀
   pub since : i₀ ≤ i
   pub left : Left s at i end behind (length out₀)
-  pub read : Read s at₀ i₀ i out₀ at out
+  pub passed : Passed s at₀ i₀ i out₀ at out
 
 pub onward-start : {s : List ℕ} {at i end behind : ℕ} {out : List ℕ} → Left s at i end behind (length out) → Onward s at i end behind out at i out
-onward-start {s} {at} {i} {end} {behind} {out} l = record { same = refl; since = omega arith; left = l; read = read-none s at i out }
+onward-start {s} {at} {i} {end} {behind} {out} l = record { same = refl; since = omega arith; left = l; passed = passed-none s at i out }
 
 module _ {s : List ℕ} {at₀ i₀ end behind : ℕ} {out₀ : List ℕ} {at i : ℕ} {out : List ℕ} (o : Onward s at₀ i₀ end behind out₀ at i out) where
   -- fewer entries are left
@@ -85,7 +102,7 @@ module _ {s : List ℕ} {at₀ i₀ end behind : ℕ} {out₀ : List ℕ} {at i 
   onward-left m a b = rw (o .same) (left-fewer m (o .left) a b)
 
   -- more entries are read
-  pub onward-more : (m next : ℕ) (after : List ℕ) → i ≤ m → m ≤ end → length after ≡ length out → Read s at i m out next after
+  pub onward-more : (m next : ℕ) (after : List ℕ) → i ≤ m → m ≤ end → length after ≡ length out → Passed s at i m out next after
       → Onward s at₀ i₀ end behind out₀ next m after
   onward-more m next after a b e r =
       let l = o .left in
@@ -93,23 +110,30 @@ module _ {s : List ℕ} {at₀ i₀ end behind : ℕ} {out₀ : List ℕ} {at i 
         same = e ∙ o .same;
         since = omega (arith, o .since);
         left = record { some-read = omega (arith, l .some-read); most = b; few = l .few; fits = l .fits; short = l .short; inside = λ h. omega (arith, l .inside (omega arith), r .ends) };
-        read = read-then (o .read) r;
+        passed = passed-then (o .passed) r;
       }
 
   module _ (h : i < end) where
     -- the next field lies within the bytes
-    pub onward-fits : (width i ≤ 11) × (at + width i ≤ 8 * length s)
-    onward-fits =
-        let e : total i + width i ≤ total end = rw total-suc at (total-mono (suc i) end h) in
-        (width-most i (omega (arith, o .left .few)), omega (arith, o .left .inside h))
+    pub onward-fits : (w : ℕ) → w ≡ width i → FieldInside s at w (length out) i
+    onward-fits w e =
+        let f : total i + width i ≤ total end = rw total-suc at (total-mono (suc i) end h) in
+        (omega (arith, width-most i (omega (arith, o .left .few))), omega (arith, o .left .inside h), omega (arith, o .left .inside h, o .left .short), omega (arith, o .same, o .left .fits))
 
-    pub onward-small : valueAt s at (width i) < 2 ^ 16
-    onward-small = le-trans (value-lt s at (width i)) (pow-mono {i = width i} {j = 16} (omega (arith, onward-fits .0)))
+    pub onward-one : (w : ℕ) (after : List ℕ) → w ≡ width i → after ≡ fieldRead s at w out i → Onward s at₀ i₀ end behind out₀ (at + w) (i + 1) after
+    unfolding fieldRead
+    onward-one w after e f =
+        rw f
+        (onward-more (i + 1) (at + w) _ (omega arith) (omega arith) (length-set out i (valueAt s at w))
+        (passed-one s at i out (at + w) (i + 1) (valueAt s at w) (ap (λ (k : ℕ). at + k) e) refl (ap (valueAt s at) e) (omega (arith, o .same, o .left .fits))))
 
-    pub onward-one : Onward s at₀ i₀ end behind out₀ (at + width i) (i + 1) (set out i (valueAt s at (width i)))
-    onward-one =
-        onward-more (i + 1) (at + width i) _ (omega arith) (omega arith) (length-set out i (valueAt s at (width i)))
-        (read-one s at i out (at + width i) (i + 1) (valueAt s at (width i)) refl refl refl (omega (arith, o .same, o .left .fits)))
+-- the same by a reading position over the bytes
+pub onward-read : (x : RefT (List ℕ)) {at₀ i₀ end behind : ℕ} {out₀ : List ℕ} {at i : ℕ} {out : List ℕ} → Onward (now x) at₀ i₀ end behind out₀ at i out
+    → (m : ℕ) (q : Reader) (after : List ℕ) → i ≤ m → m ≤ end → length after ≡ length out → Read (record { bytes = x; at = at }) i m out q after
+    → Onward (now x) at₀ i₀ end behind out₀ (at + (total m - total i)) m after
+onward-read x {at = at} {i = i} {out = out} o m q after a b e r =
+    onward-more o m (at + (total m - total i)) after a b e
+    (subst (λ (n : ℕ). Passed (now x) at i m out n after) (ap (λ (p : Reader). p .at) (r .moved)) (read-passed (record { bytes = x; at = at }) a r))
 
 -- twelve entries behind those that are left have the bits to fill up a word
 pub onward-words : {s : List ℕ} {at₀ i₀ end : ℕ} {out₀ : List ℕ} {at i : ℕ} {out : List ℕ} (m : ℕ) → Onward s at₀ i₀ end 0 out₀ at i out
@@ -129,8 +153,8 @@ onward-words {end = end} {i = i} m o a b f =
 
 -- all entries are read
 pub onward-end : {s : List ℕ} {at₀ i₀ end behind : ℕ} {out₀ : List ℕ} {at i : ℕ} {out : List ℕ} → Onward s at₀ i₀ end behind out₀ at i out → end ≤ i
-    → Read s at₀ i₀ end out₀ at out
-onward-end {end = end} {i = i} o h = let e : i ≡ end = omega (arith, o .left .most) in rw e at (o .read)
+    → Passed s at₀ i₀ end out₀ at out
+onward-end {end = end} {i = i} o h = let e : i ≡ end = omega (arith, o .left .most) in rw e at (o .passed)
 
 -- the same within a run of one width, four by four
 pub record Running (s : List ℕ) (at₀ i₀ end : ℕ) (out₀ : List ℕ) (w at i : ℕ) (out : List ℕ) : Type 0 where
@@ -143,14 +167,25 @@ module _ {s : List ℕ} {at₀ i₀ end : ℕ} {out₀ : List ℕ} {w at i : ℕ
   four : (i + 4 ≤ end) × ((j : ℕ) → i ≤ j → j < i + 4 → width j ≡ w)
   four = run-four i w (r .run) (r .onward .since) (r .four) h (r .wide)
 
-  read : Read s at i (i + 4) out (at + 4 * w) (fourRead s at w out i)
-  read = read-four s at i w out (omega (arith, four .0, r .onward .same, r .onward .left .fits)) (four .1)
+  read : Passed s at i (i + 4) out (at + 4 * w) (fourRead s at w out i)
+  read = passed-four s at i w out (omega (arith, four .0, r .onward .same, r .onward .left .fits)) (four .1)
 
   -- the next four fields lie in a word
-  pub running-fits : (1 ≤ w) × (w ≤ 11) × (at / 8 + 8 ≤ length s) × (i + 4 ≤ length out)
+  pub running-fits : FourInside s at w (length out) i
   running-fits =
-      let a = run-wide w (r .run) (omega (arith, r .onward .since, r .onward .left .few)) (r .wide) in
-      (omega arith, a .1, omega (arith, read .ends, total-mono (i + 4) end (four .0), r .onward .left .inside h), omega (arith, four .0, r .onward .same, r .onward .left .fits))
+      let a = run-wide w (r .run) (omega (arith, r .onward .since, r .onward .left .few)) (r .wide) in (
+        omega arith,
+        omega (arith, a .1),
+        omega (arith, read .ends, total-mono (i + 4) end (four .0), r .onward .left .inside h),
+        omega (arith, read .ends, total-mono (i + 4) end (four .0), r .onward .left .inside h, r .onward .left .short),
+        omega (
+          arith,
+          four
+              .0,
+          r .onward .same,
+          r .onward .left .fits,
+        ),
+      )
 
   pub running-next : (after : List ℕ) → length after ≡ length out → after ≡ fourRead s at w out i → Running s at₀ i₀ end out₀ w (at + 4 * w) (i + 4) after
   running-next after e f =
@@ -162,30 +197,60 @@ module _ {s : List ℕ} {at₀ i₀ end : ℕ} {out₀ : List ℕ} {w at i : ℕ
       }
 
 -- before any entry but the first is read, which has no bits
-reading-start : (s : List ℕ) (start : ℕ) (out : List ℕ) → 1 ≤ length out → Reading s start start 1 (set out 0 0)
+pub reading-start : (s : List ℕ) (start : ℕ) (out : List ℕ) → 1 ≤ length out → Reading s start start 1 (set out 0 0)
 unfolding listed entriesFrom entryFrom width number valueAt
 reading-start s start [] h = absurd (omega arith)
 reading-start s start (x ∷ out) h = record { place = rw total-one refl; done = refl }
 
-pub entries-left : (s : List ℕ) (start n : ℕ) (out : List ℕ) → 1 ≤ n → n ≤ 1024 → n ≤ length out → length s ≤ 2 ^ 32 → start + (total n - 11) ≤ 8 * length s
-    → Onward s start 1 n 0 (set out 0 0) start 1 (set out 0 0)
-entries-left s start n out a b d e f =
-    onward-start
+-- the three parts of the entries
+pub parts-of : (n : ℕ) {first last : ℕ} → 1 ≤ n → first ≡ min 5 n → (first ≤ last) × (last ≤ n) × (last % 4 ≡ first % 4) × (first < last → last + 12 ≤ n) → Parts first last n
+parts-of n l e f =
     record {
-      some-read = omega arith;
-      most = a;
-      few = b;
-      fits = rw length-set d;
-      short = e;
-      inside = λ h. rw total-one (omega (arith, total-header n));
+      some-first = omega arith;
+      ordered = f .0;
+      most = f .1;
+      fours = λ h. (record { from = omega (arith, f .1); first = omega (arith, f .1); last = omega (arith, f .1, f .2) }, f .3 h);
     }
 
--- all n entries are read
-pub entries-read : (s : List ℕ) (start n : ℕ) (out : List ℕ) (r : ℕ) (after : List ℕ) → 1 ≤ length out → Read s start 1 n (set out 0 0) r after
-    → (r ≡ start + (total n - 11)) × (take n after ≡ entriesFrom start n s)
-entries-read s start n out r after h d =
-    let g = d .reads start (reading-start s start out h) in
-    (omega (arith, g .place, total-header n), g .done)
+-- the padding of a record lies in its last byte
+module _ (s : List ℕ) (n : ℕ) (l : 1 ≤ n) (few : n ≤ 1024) (whole : length s ≡ recordLength n) where
+  pub record-bits : (length s ≤ 2 ^ 32) × (total n ≤ 8 * length s) × (8 * length s ≤ total n + 7)
+  record-bits =
+      let k = record-length-bits n in
+      (omega (arith, record-length-most n few), omega arith, omega arith)
+
+  pub record-left : (room : ℕ) → n ≤ room → Left s 11 1 n 0 room
+  record-left room h =
+      let k = record-bits in
+      record { some-read = omega arith; most = l; few = few; fits = h; short = k .0; inside = λ _. omega (arith, total-one) }
+
+  pub padding-inside : FieldInside s (total n) (8 * length s - total n) 1 0
+  padding-inside =
+      let k = record-bits in
+      (omega arith, omega arith, omega arith, omega arith)
+
+-- the entries of a record end where its padding starts
+pub entries-end : (n : ℕ) → 1 ≤ n → 11 + (total n - total 1) ≡ total n
+entries-end n h = omega (arith, total-one, total-mono 1 n h)
+
+module _ (s : List ℕ) (p room n : ℕ) (l : 1 ≤ n) (f : FieldInside s (total n) p room 0) where
+  -- where the padding lies within the bytes, so does the count
+  pub count-inside : FieldInside s 0 11 room 0
+  count-inside = (omega arith, omega (arith, f .1, total-one, total-mono 1 n l), omega arith, f .3)
+
+  -- and the padding does behind the entries, too
+  pub padding-behind : (other : List ℕ) → length other ≡ room → FieldInside s (11 + (total n - total 1)) p (length other) 0
+  padding-behind other e = rw (entries-end n l, e) f
+
+-- all entries of a record are read, and its padding
+pub all-read : (x : RefT (List ℕ)) (n p : ℕ) (other : List ℕ) {before after rest : List ℕ} {q : Reader} → 1 ≤ n → 0 < length other → Reading (now x) 11 11 1 before
+    → Read (record { bytes = x; at = 11 }) 1 n before q after → rest ≡ fieldRead (now x) (11 + (total n - total 1)) p other 0
+    → Reading (now x) 11 (total n) n after × (getD rest 0 0 ≡ valueAt (now x) (total n) p)
+unfolding fieldRead
+all-read x n p other {after = after} l h start r e = (
+  subst (λ (m : ℕ). Reading (now x) 11 m n after) (ap (λ (d : Reader). d .at) (r .moved) ∙ entries-end n l) (r .reads 11 start),
+  ap (λ (o : List ℕ). getD o 0 0) e ∙ getD-set-same other 0 (valueAt (now x) (11 + (total n - total 1)) p) 0 h ∙ ap (λ (m : ℕ). valueAt (now x) m p) (entries-end n l),
+)
 
 -- bits of which one is set stand for a number that is not 0
 pub set-number : (bs : Bits) → AreBits bs → anySet bs ≡ not (eqb (number bs) 0)

@@ -1,15 +1,17 @@
 // Packed records: lengths, field widths, and the entries' fields read and written from the bit where they start.
 ghost use mathlib.Core.Path.{_≡_};
 ghost use mathlib.Core.List.{_++_};
-ghost use Prim.Native.Nat.{_+_, _-_, _*_, _%_, _≤_, _<_, _^_, min};
-ghost use lib.ListN.{length, take, drop};
+ghost use Prim.Native.Nat.{_+_, _%_, _≤_, _<_, min};
+ghost use lib.ListN.{length, take, drop, getD};
 ghost use Rattle.rules.specs.Vector.{Valid};
-ghost use Rattle.rules.specs.Record.{width, total, recordLength, recordOf, bitsOf, leafCount, anySet};
-ghost use Rattle.record_laws.specs.Fields.{entriesFrom};
+ghost use Rattle.rules.specs.Record.{width, total, recordLength, recordOf, leafCount, entriesOf, padding, anySet};
+ghost use Rattle.record_laws.specs.Window.{valueAt};
+ghost use Rattle.bits.specs.Fields.{FieldInside};
 ghost use Rattle.record.specs.Entries.{PutEntries, Due};
 ghost use Rattle.record.specs.Runs.{Fours, Run};
-ghost use Rattle.record.specs.Reading.{Left, Read};
+ghost use Rattle.record.specs.Reading.{Left, Read, Reading, Parts};
 use bits::Pending;
+use bits::Reader;
 
 pub mod totals;
 
@@ -49,13 +51,6 @@ fn fours_end(first: usize, behind: usize, n: usize) -> usize
     ensures { λ r. ⌜ (first ≤ r) × (r ≤ n) × (r % 4 ≡ first % 4) × (first < r → r + behind ≤ n) ⌝ }
 {
     first + (n - lesser(first + behind, n)) / 4 * 4
-}
-
-fn small(x: u32) -> u16
-    requires { ⌜ x < 2 ^ 16 ⌝ }
-    ensures { λ r. ⌜ r ≡ x ⌝ }
-{
-    x as u16
 }
 
 // Appends the fields of the entries from i to end one by one.
@@ -148,74 +143,100 @@ pub fn leaf_count(s: &[u8]) -> usize
     requires { ⌜ 2 ≤ length (now s) ⌝ }
     ensures { λ r. ⌜ r ≡ leafCount (now (s .entry)) ⌝ }
 {
-    bits::field_at(s, 0, 11) as usize
+    let mut count = [0u16; 1];
+    bits::first_field(s, 11, &mut count);
+    count[0] as usize
 }
 
-// Reads the entries from i to end one by one, the first of them from bit `at` on, and returns the bit behind them.
-fn read_singles(s: &[u8], at: usize, i: usize, end: usize, out: &mut [u16]) -> usize
-    requires { ⌜ Left (now s) at i end 0 (length (now out)) ⌝ }
-    ensures { λ r. ⌜ Read (now (s .entry)) at i end (now (out .entry)) r (now (out .exit)) ⌝ }
+// Reads the entries from i to end one by one, and gives the position moved on behind them.
+fn read_singles<'a>(r: Reader<'a>, i: usize, end: usize, out: &mut [u16]) -> Reader<'a>
+    requires { ⌜ Left (now (r .bytes)) (r .at) i end 0 (length (now out)) ⌝ }
+    ensures { λ q. ⌜ Read (r .entry) i end (now (out .entry)) q (now (out .exit)) ⌝ }
 {
-    let mut next = at;
+    let mut q = r;
     let mut k = i;
     while k < end {
-        let w = field_width(k);
-        out[k] = small(bits::field_at(s, next, w));
-        next += w as usize;
+        q = bits::next_field(q, field_width(k), out, k);
         k += 1;
     }
-    next
+    q
 }
 
 // The same for entries of one width, four by four. The 48 bits behind the entries let the last four lie in a word, too.
-fn read_run(s: &[u8], at: usize, i: usize, end: usize, out: &mut [u16]) -> usize
-    requires { ⌜ Left (now s) at i end 48 (length (now out)) × Run i end ⌝ }
-    ensures { λ r. ⌜ Read (now (s .entry)) at i end (now (out .entry)) r (now (out .exit)) ⌝ }
+fn read_run<'a>(r: Reader<'a>, i: usize, end: usize, out: &mut [u16]) -> Reader<'a>
+    requires { ⌜ Left (now (r .bytes)) (r .at) i end 48 (length (now out)) × Run i end ⌝ }
+    ensures { λ q. ⌜ Read (r .entry) i end (now (out .entry)) q (now (out .exit)) ⌝ }
 {
     let w = field_width(i);
-    let mut next = at;
+    let mut q = r;
     let mut k = i;
     while k < end {
-        bits::read_four(s, next, w, out, k);
-        next += 4 * (w as usize);
+        q = bits::next_four(q, w, out, k);
         k += 4;
     }
-    next
+    q
 }
 
 // The same for entries of any width, run by run.
-fn read_fours(s: &[u8], at: usize, i: usize, end: usize, out: &mut [u16]) -> usize
-    requires { ⌜ Left (now s) at i end 48 (length (now out)) × (i < end → Fours i end) ⌝ }
-    ensures { λ r. ⌜ Read (now (s .entry)) at i end (now (out .entry)) r (now (out .exit)) ⌝ }
+fn read_fours<'a>(r: Reader<'a>, i: usize, end: usize, out: &mut [u16]) -> Reader<'a>
+    requires { ⌜ Left (now (r .bytes)) (r .at) i end 48 (length (now out)) × (i < end → Fours i end) ⌝ }
+    ensures { λ q. ⌜ Read (r .entry) i end (now (out .entry)) q (now (out .exit)) ⌝ }
 {
-    let mut next = at;
+    let mut q = r;
     let mut k = i;
     while k < end {
         let e = run_end(k, end);
-        next = read_run(s, next, k, e, out);
+        q = read_run(q, k, e, out);
         k = e;
     }
-    next
+    q
 }
 
-/// Reads the n entries whose fields start at bit `start` into the front of `out`, and returns the bit behind them.
-pub fn read_entries(s: &[u8], start: usize, n: usize, out: &mut [u16]) -> usize
-    requires { ⌜ (1 ≤ n) × (n ≤ 1024) × (n ≤ length (now out)) ⌝ }
-    requires { ⌜ (length (now s) ≤ 2 ^ 32) × (start + (total n - 11) ≤ 8 * length (now s)) ⌝ }
-    ensures { λ r. ⌜ (r ≡ start + (total n - 11)) × (take n (now (out .exit)) ≡ entriesFrom start n (now (s .entry))) ⌝ }
+// Reads the entries from 1 to n: one by one to `first`, by fours to `last`, and one by one again.
+fn read_entries<'a>(
+    r: Reader<'a>,
+    first: usize,
+    last: usize,
+    n: usize,
+    out: &mut [u16],
+) -> Reader<'a>
+    requires { ⌜ Left (now (r .bytes)) (r .at) 1 n 0 (length (now out)) × Parts first last n ⌝ }
+    ensures { λ q. ⌜ Read (r .entry) 1 n (now (out .entry)) q (now (out .exit)) ⌝ }
+{
+    let fours = read_singles(r, 1, first, out);
+    let rest = read_fours(fours, first, last, out);
+    read_singles(rest, last, n, out)
+}
+
+// Reads a record by one reading position, from its first bit to its last: the count and, behind the entries, the padding into place 0 of
+// `other`. The contract says nothing of the position, so who calls it needs no walk by hand.
+fn read_fields(
+    s: &[u8],
+    first: usize,
+    last: usize,
+    n: usize,
+    padding: u32,
+    out: &mut [u16],
+    other: &mut [u16],
+)
+    requires { ⌜ (Left (now s) 11 1 n 0 (length (now out)) × Parts first last n × Reading (now s) 11 11 1 (now out)) × FieldInside (now s) (total n) padding (length (now other)) 0 ⌝ }
+    ensures { λ _. ⌜ Reading (now (s .entry)) 11 (total n) n (now (out .exit)) × (getD (now (other .exit)) 0 0 ≡ valueAt (now (s .entry)) (total n) padding) ⌝ }
+{
+    let entries = bits::next_field(bits::reading(s), 11, other, 0);
+    let rest = read_entries(entries, first, last, n, out);
+    bits::next_field(rest, padding, other, 0);
+}
+
+/// Reads the entries of a record of n leaves into the front of `out`, and says whether a padding bit is set.
+pub fn read_record(s: &[u8], n: usize, out: &mut [u16]) -> bool
+    requires { ⌜ (1 ≤ n) × (n ≤ 1024) × (n ≤ length (now out)) × (length (now s) ≡ recordLength n) ⌝ }
+    ensures { λ r. ⌜ (take n (now (out .exit)) ≡ entriesOf n (now (s .entry))) × (r ≡ anySet (padding n (now (s .entry)))) ⌝ }
 {
     out[0] = 0;
     let first = lesser(5, n);
     let last = fours_end(first, 12, n);
-    let fours = read_singles(s, start, 1, first, out);
-    let rest = read_fours(s, fours, first, last, out);
-    read_singles(s, rest, last, n, out)
-}
-
-/// Whether a bit is set from bit `at` on, in the last byte.
-pub fn padding_set(s: &[u8], at: usize) -> bool
-    requires { ⌜ (length (now s) ≤ 2 ^ 32) × (at ≤ 8 * length (now s)) × (8 * length (now s) ≤ at + 7) ⌝ }
-    ensures { λ r. ⌜ r ≡ anySet (drop at (bitsOf (now (s .entry)))) ⌝ }
-{
-    bits::field_at(s, at, (8 * s.len() - at) as u32) != 0
+    let width = (8 * s.len() - totals::bits_before(n)) as u32;
+    let mut rest = [0u16; 1];
+    read_fields(s, first, last, n, width, out, &mut rest);
+    rest[0] != 0
 }

@@ -27,12 +27,12 @@ pub fn entries_of(s: &[u8], n: usize, vector: &mut [u16]) -> Held
     requires { ⌜ Headed (now s) n × (length (now vector) ≡ 1024) ⌝ }
     ensures { λ r. ⌜ Holds (now (s .entry)) n (now (vector .exit)) r ⌝ }
 {
-    let end = record::read_entries(s, 11, n, vector);
+    let padded = record::read_record(s, n, vector);
     let i = first_fault_of(vector, n);
     if i < n {
         return Held::Above(i);
     }
-    if record::padding_set(s, end) {
+    if padded {
         return Held::Padding;
     }
     Held::Entries

@@ -2,7 +2,7 @@
 use native.Mathlib.Omega.{arith}
 use borrow.Author.Needs.{needs}
 use mathlib.Core.Path.{refl}
-use Rattle.bits.specs.Four.{fourOf}
+use Rattle.bits.specs.Fields.{fourOf}
 use Rattle.bits.proofs.Four.{each-lt, four-lt, parts-lt}
 use Rattle.bits.proofs.four_from.Statement.{statement}
 use Rattle.bits.proofs.four_from.Tie as tie

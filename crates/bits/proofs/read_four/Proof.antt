@@ -1,6 +1,7 @@
 -- `bits::read_four` meets its contract: each field by the shifts and the mask (`four-there`).
 use native.Mathlib.Omega.{arith}
 use borrow.Author.Needs.{needs}
+use mathlib.Core.Path.{refl}
 use lib.ListN.{length-set}
 use Rattle.bits.proofs.Four.{four-there}
 use Rattle.bits.proofs.read_four.Statement.{statement}
@@ -81,14 +82,22 @@ mul-out-4 c = search needs
 slice-write-out-4 : tie.Need-slice-write-out-4
 slice-write-out-4 c = simp length-set (omega arith)
 
+mul-result : tie.Need-mul-result
+mul-result c = search needs
+
+add-result : tie.Need-add-result
+add-result c = search needs
+
 same-length : tie.Need-same-length
 same-length c = search needs
 
 returns : tie.Need-returns
 returns c =
-    let a = c .before .before .before .before .before .before .before .args in
-    four-there (a .s .now) (a .at) (a .width) (λ i. c .before .before .before .before .before .before .shared-slice-known .given i .fits) (omega arith) (omega arith) (a .out .now) (a .i)
-    (c .before .before .before .before .eight-inside .ensures) (c .before .before .before .low-bits .ensures) (c .before .before .low-bits2 .ensures) (c .before .low-bits3 .ensures) (c .low-bits4 .ensures)
+    let a = c .before .before .before .before .before .before .before .args in (
+      refl,
+      four-there (a .s .now) (a .at) (a .width) (λ i. c .before .before .before .before .before .before .shared-slice-known .given i .fits) (omega arith) (omega arith) (a .out .now) (a .i)
+          (c .before .before .before .before .eight-inside .ensures) (c .before .before .before .low-bits .ensures) (c .before .before .low-bits2 .ensures) (c .before .low-bits3 .ensures) (c .low-bits4 .ensures),
+    )
 
 pub read-four-spec : {M : Type 1} → statement M
 read-four-spec =
@@ -119,5 +128,7 @@ read-four-spec =
     add-out-3
     mul-out-4
     slice-write-out-4
+    mul-result
+    add-result
     same-length
     returns)
