@@ -256,7 +256,7 @@ unfolding packed shuffled back check
 rooms-hold = (refl, refl, refl, refl)
 
 -- Figure S1 of document 001, the run of 0,0,2,3: before each step the names of the clusters (the figure's P), the labels that leaves give
--- the clusters named below them (its L: a row for each leaf that still names a cluster, and the last row, of all four), the next merge.
+-- the clusters named below them (its L: the row of each leaf that still names a cluster, and the last, for the whole tree), the next merge.
 abbrev View : Type 0
 View = List ℕ × List (List ℕ) × Option Merge
 
