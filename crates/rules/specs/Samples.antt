@@ -22,7 +22,7 @@ use Rattle.rules.specs.Newick.{pairText, allDigits, valueFrom, nought, n
 use Rattle.rules.specs.Record.{total, recordOf}
 use Rattle.rules.specs.Answer.{Outcome, done, refused, Making, Made, made, refuses}
 use Rattle.rules.specs.Promise.{Call, answers, holds}
-use Rattle.rules.specs.Listing.{listing}
+use Rattle.rules.specs.Listing.{commaed, refusedLine, listing}
 use Rattle.rules.specs.CallCheck.{check, check-call}
 use Rattle.rules.specs.CallToTable.{toTable}
 use Rattle.rules.specs.CallFromTable.{fromTable}
@@ -288,6 +288,19 @@ figure-s1 : map (view (0 ∷ 0 ∷ 2 ∷ 3 ∷ [])) (states (merges (0 ∷ 0 ∷
 unfolding view states merges start
 figure-s1 = refl
 
+-- the same of the marked 0,0,1,4, where a cluster other than 0 is merged first
+abbrev run-0014 : List View
+run-0014 =
+    (0 ∷ 1 ∷ 2 ∷ 3 ∷ [], [] ∷ (0 ∷ []) ∷ (0 ∷ 1 ∷ []) ∷ (0 ∷ 1 ∷ 2 ∷ []) ∷ (0 ∷ 1 ∷ 2 ∷ 3 ∷ []) ∷ [], some (1, 2))
+    ∷ (0 ∷ 1 ∷ 3 ∷ [], [] ∷ (0 ∷ []) ∷ (0 ∷ 3 ∷ 2 ∷ []) ∷ (0 ∷ 4 ∷ 2 ∷ 3 ∷ []) ∷ [], some (0, 1))
+    ∷ (0 ∷ 3 ∷ [], [] ∷ (4 ∷ 3 ∷ 2 ∷ []) ∷ (5 ∷ 4 ∷ 2 ∷ 3 ∷ []) ∷ [], some (0, 3))
+    ∷ (0 ∷ [], [] ∷ (6 ∷ 4 ∷ 2 ∷ 3 ∷ []) ∷ [], none)
+    ∷ []
+
+run-0014-holds : map (view (0 ∷ 0 ∷ 1 ∷ 4 ∷ [])) (states (merges (0 ∷ 0 ∷ 1 ∷ 4 ∷ [])) (start 4)) ≡ run-0014
+unfolding view states merges start
+run-0014-holds = refl
+
 -- the pairs of the figure, as numbers of nodes: (0, 1), (4, 3), (5, 2)
 figure-s1-table : toTable (0 ∷ 0 ∷ 2 ∷ 3 ∷ []) ≡ made (0 ∷ 1 ∷ 4 ∷ 4 ∷ 3 ∷ 5 ∷ 5 ∷ 2 ∷ 6 ∷ [])
 unfolding toTable
@@ -331,12 +344,13 @@ abbrev listings : List (List ℕ × List ℕ)
 listings =
     (listing 10 (0x00 ∷ 0x8C ∷ 0x00 ∷ 0x40 ∷ 0x00 ∷ 0x91 ∷ 0x00 ∷ []), bytes "4 0,0,1,4 ((0,(1,2)),3);\n2 0,0 (0,1);\n4 0,0,2,1 ((0,(1,3)),2);\nrefused 2 2\n")
     ∷ (listing 10 [], bytes "")
+    ∷ (listing 10 (0x00 ∷ 0x40 ∷ []), bytes "2 0,0 (0,1);\n")
     ∷ (listing 10 (0x00 ∷ 0x41 ∷ 0x00 ∷ 0x40 ∷ []), bytes "refused 10 1\n")
     ∷ (listing 10 (0xFF ∷ 0xFF ∷ []), bytes "refused 1 0\n")
     ∷ (listing 10 (0x01 ∷ 0x74 ∷ 0xD1 ∷ []), bytes "refused 2 6\n")
     ∷ (listing 2 (0x00 ∷ 0x20 ∷ 0x00 ∷ 0x40 ∷ 0x00 ∷ 0x20 ∷ []), bytes "1 0 0;\n2 0,0 (0,1);\n")
     ∷ []
 
-listings-hold : Hold listings
-unfolding listing
-listings-hold = refl
+listings-hold : Hold listings × (commaed (1000 ∷ 1000 ∷ []) ≡ bytes "1000,1000") × (refusedLine 2 1280 ≡ bytes "refused 2 1280\n")
+unfolding listing commaed refusedLine
+listings-hold = (refl, refl, refl)
