@@ -1,3 +1,4 @@
 mod Masking
 mod Four
 mod Writing
+mod Thin

@@ -3,9 +3,6 @@ use native.Mathlib.Omega.{arith}
 use borrow.Author.Needs.{needs}
 use Rattle.unpacking.proofs.first_fault_of.Statement.{statement}
 use Rattle.unpacking.proofs.first_fault_of.Tie as tie
-use Rattle.unpacking.proofs.first_fault_of.Reads as reads
-use Rattle.unpacking.proofs.first_fault_of.Lts as lts
-use Rattle.vector.proofs.first_fault.Reads as first-fault-reads
 
 slice-aggregate-first-fault : tie.Need-slice-aggregate-first-fault
 slice-aggregate-first-fault c = simp length-take (omega arith)
