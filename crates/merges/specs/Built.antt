@@ -6,13 +6,13 @@ use Prim.Native.Nat.{ℕ, suc, _+_, _-_, _*_, _≤_, _<_}
 use native.Mathlib.Numerals.{add-one}
 use native.Mathlib.Omega.{arith}
 use lib.ListN.{length, take, drop, getD, set, length-take, length-drop, length-set}
-use lib.Seq.{drop-cons, lt-length-set, getD-set-same, drop-set-lt}
+use lib.Seq.{drop-cons, lt-length-set, getD-set-same, getD-take, getD-drop, drop-set-lt}
 use borrow.Author.Tests.{lt-ltb, le-ltb}
 use Rattle.rules.specs.Vector.{entry, bound, Valid}
 use Rattle.rules.specs.Building.{Merge}
 use Rattle.merging.specs.Insertion.{pairsOf, pairs, pairs-count}
 use Rattle.merging.specs.Greedy.{Under, under-pairs}
-use Rattle.merges.specs.Moved.{ins}
+use Rattle.merges.specs.Moved.{ins, ins-before}
 use Rattle.merges.specs.Held.{held, place, nameAt, nameIn, pairs-next, larger-below, merge-at, same-name, held-next}
 
 -- list from lo on and small hold the merges of the first i entries
@@ -79,16 +79,40 @@ put-front {list} {small} {lo} {i} {x} T h =
       smaller = rw (lt-ltb x i h);
     }
 
--- any other goes right behind the merge that it counts, and has its smaller name
-pub put-behind : {list small list′ : List ℕ} {lo i x d lo′ : ℕ} → i ≤ x → d ≡ x - i → lo′ ≤ lo → lo ≤ lo′ + 1 → take (i - 1 + 1) (drop lo′ list′) ≡ ins (d + 1) i (take (i - 1) (drop lo list))
-    → Put list small lo i x list′ (set small i (getD small (getD list (lo + d) 0) 0)) lo′
+-- any other goes right behind the merge that it counts, which is then where it was among the names
+pub counted-stays : (list list′ : List ℕ) (lo lo′ m d w : ℕ) → d + 1 ≤ m → lo + m ≤ length list → take (m + 1) (drop lo′ list′) ≡ ins (d + 1) w (take m (drop lo list))
+    → getD list′ (lo′ + d) 0 ≡ getD list (lo + d) 0
+counted-stays list list′ lo lo′ m d w h room e =
+    sym (getD-drop lo′ list′ d 0)
+    ∙ sym (getD-take (m + 1) (drop lo′ list′) d 0 (omega arith))
+    ∙ ap (λ (l : List ℕ). getD l d 0) e
+    ∙ ins-before (d + 1) d w (take m (drop lo list)) (omega arith) (omega (arith, length-take m (drop lo list), length-drop lo list))
+    ∙ getD-take m (drop lo list) d 0 (omega arith)
+    ∙ getD-drop lo list d 0
+
+pub counted-inside : {list small : List ℕ} {lo i x d : ℕ} (list′ : List ℕ) (lo′ : ℕ) → Turn list small lo i x → i ≤ x → d ≡ x - i
+    → take (i - 1 + 1) (drop lo′ list′) ≡ ins (d + 1) i (take (i - 1) (drop lo list)) → getD list′ (lo′ + d) 0 < length small
+counted-inside {list} {small} {lo} {i} {x} {d} list′ lo′ T h q e =
+    let top = T .top in
+    let low = T .low in
+    let inside = T .inside in
+    rw (counted-stays list list′ lo lo′ (i - 1) d i (omega arith) (omega arith) e) (rw (sym q) at (T .finds h))
+
+-- and has its smaller name
+pub put-behind : {list small list′ : List ℕ} {lo i x d lo′ : ℕ} → Turn list small lo i x → i ≤ x → d ≡ x - i → lo′ ≤ lo → lo ≤ lo′ + 1
+    → take (i - 1 + 1) (drop lo′ list′) ≡ ins (d + 1) i (take (i - 1) (drop lo list)) → Put list small lo i x list′ (set small i (getD small (getD list′ (lo′ + d) 0) 0)) lo′
 unfolding place nameAt
-put-behind {list} {small} {list′} {lo} {i} {x} {d} {lo′} h q u w e = record {
-  up = u;
-  down = w;
-  larger = rw (le-ltb x i h, sym q) e;
-  smaller = rw (le-ltb x i h, sym q);
-}
+put-behind {list} {small} {list′} {lo} {i} {x} {d} {lo′} T h q u w e =
+    let top = T .top in
+    let low = T .low in
+    let inside = T .inside in
+    let same : getD list′ (lo′ + d) 0 ≡ getD list (lo + d) 0 = counted-stays list list′ lo lo′ (i - 1) d i (omega arith) (omega arith) e in
+    record {
+      up = u;
+      down = w;
+      larger = rw (le-ltb x i h, sym q) e;
+      smaller = rw (le-ltb x i h, sym q, same);
+    }
 
 pub turn : {v list small : List ℕ} {lo i x : ℕ} → Built v list small lo i → i < length v → x ≡ getD v i 0 → Turn list small lo i x
 unfolding entry bound

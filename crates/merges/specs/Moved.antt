@@ -35,7 +35,7 @@ ins-length zero a l h = refl
 ins-length (suc s) a [] h = absurd (omega arith)
 ins-length (suc s) a (x ∷ l) h = ap suc (ins-length s a l (omega arith))
 
-ins-before : (s k a : ℕ) (l : List ℕ) → k < s → s ≤ length l → getD (ins s a l) k 0 ≡ getD l k 0
+pub ins-before : (s k a : ℕ) (l : List ℕ) → k < s → s ≤ length l → getD (ins s a l) k 0 ≡ getD l k 0
 unfolding ins
 ins-before zero k a l h g = absurd (omega arith)
 ins-before (suc s) k a [] h g = absurd (omega arith)

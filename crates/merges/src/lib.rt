@@ -62,20 +62,21 @@ fn insert(list: &mut [u16], lo: usize, m: usize, s: usize, w: u16) -> usize
 // Puts leaf i's merge, where its entry is x, among the i-1 merges before: its smaller name into small, its larger name into the
 // list that starts at lo. The result is where the list starts then. An entry that names a leaf moves nothing, and so do half of
 // all entries of a random tree: that case comes first. The difference is taken in 16 bits, so that the compiler does not carry
-// four sums of it from leaf to leaf.
+// four sums of it from leaf to leaf. Both cases store the smaller name last, which becomes one store for both.
 fn put(list: &mut [u16], small: &mut [u16], lo: usize, i: usize, x: u16) -> usize
     requires { ⌜ Turn (now list) (now small) lo i x ⌝ }
     ensures { λ r. ⌜ Put (now (list .entry)) (now (small .entry)) lo i x (now (list .exit)) (now (small .exit)) r ⌝ }
 {
     if wide(x) < i {
         let front = lo - 1;
-        small[i] = x;
         list[front] = i as u16;
+        small[i] = x;
         return front;
     }
     let d = wide(x - i as u16);
-    small[i] = small[wide(list[lo + d])];
-    insert(list, lo, i - 1, d + 1, i as u16)
+    let start = insert(list, lo, i - 1, d + 1, i as u16);
+    small[i] = small[wide(list[start + d])];
+    start
 }
 
 // Writes the merges of v: their larger names into list, which grows at both ends from its middle, and for each of them the
