@@ -131,9 +131,6 @@ module _ (Inside : List ℕ → ℕ → ℕ → ℕ → ℕ → Type 0) (bits : 
       abbrev Own : Fml
       Own = B κs .own d (mach ∷ [])
 
-      abbrev Out : Fml
-      Out = MutSlice (named 1) κ₁ u16 .own x (s ∷ [])
-
       -- the struct's type and laws, and d's fields' values
       abbrev D : Declared
       D = T.the-type (namedLft 2 0 tt κs)

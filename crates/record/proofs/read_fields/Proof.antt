@@ -132,9 +132,6 @@ module _ {M : Type 1} (𝓤 : URA M) (H : Heap 𝓤) (A : Atoms 𝓤) (W : Given
   abbrev Buffer : Fml
   Buffer = MutSlice (named 1) κ₁ u16 .own x (s ∷ [])
 
-  abbrev Other : List ℕ → Fml
-  Other l = MutSlice (named 2) κ₂ u16 .own (y γ l) (s₂ ∷ [])
-
   abbrev Own : Reader → Val → Fml
   Own r u = B κs .own r (u ∷ [])
 
