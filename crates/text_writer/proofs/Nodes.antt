@@ -1,112 +1,166 @@
--- A node that is written: a leaf by its digits, a pair child by child.
--- Main results: leaf-room, leaf-wrote, open-room, first-room, comma-room, second-room, close-room, pair-wrote, root-room, end-room, text-wrote.
-use mathlib.Core.Path.{_≡_, sym, ap, subst, _∙_}
-use mathlib.Core.List.{List}
-use Prim.Native.Nat.{ℕ, _+_, _-_, _≤_, _<_}
+-- A node that is written: a leaf by its word, a pair child by child.
+-- Main results: leaf-room, leaf-wrote, open-room, first-room, comma-room, second-room, close-room, pair-stands, root-room, end-room, text-stands.
+use mathlib.Core.Bool.{Bool, true, false, cond}
+use mathlib.Core.List.{List, [], _∷_}
+use mathlib.Core.Path.{_≡_, refl, sym, ap, subst, subst₂, _∙_}
+use Prim.Native.Nat.{ℕ, _+_, _-_, _*_, _/_, _%_, _≤_, _<_}
 use native.Mathlib.Omega.{arith}
+use lib.Dec.{ltb}
 use lib.ListN.{length, getD, set, length-set}
+use lib.Seq.{sets}
 use borrow.Author.Tests.{lt-ltb}
 use Rattle.rules.specs.Newick.{digits, pairText, nodeText, textOf}
 use Rattle.rules.specs.Tree.{Tree, node, least}
 use Rattle.table_laws.specs.Tied.{treeAt, wholeTree, tree-leaf, tree-pair}
+use Rattle.grammar.specs.Decimal.{digitCount, digits-length}
 use Rattle.grammar.specs.Length.{pair-length}
-use Rattle.text_writer.specs.Output.{Wrote, Ordered, NodeRoom}
-use Rattle.text_writer.proofs.Writing.{wrote-pair, wrote-length, text-room, wrote-end}
+use Rattle.text_writer.specs.Words.{wordOf, wordBytes, signCount, word-signs, word-bytes}
+use Rattle.text_writer.specs.Output.{Words, NodeRoom, TextRoom, Stands}
+use Rattle.text_writer.proofs.Writing.{stands-sign, stands-then, stands-first, text-room}
 
-module _ {n : ℕ} {left right : List ℕ} {k : ℕ} {out : List ℕ} {at : ℕ} (P : NodeRoom n left right k out at) where
+some-digits : (x : ℕ) → (1 ≤ length (digits 4 x)) × (length (digits 4 x) ≤ 4)
+unfolding digitCount
+some-digits x = subst (λ (k : ℕ). (1 ≤ k) × (k ≤ 4)) (sym (digits-length x)) (go (ltb x 10) (ltb x 100) (ltb x 1000))
+  where
+    go : (a b c : Bool) → (1 ≤ cond a 1 (cond b 2 (cond c 3 4))) × (cond a 1 (cond b 2 (cond c 3 4)) ≤ 4)
+    go true b c = (omega arith, omega arith)
+    go false true c = (omega arith, omega arith)
+    go false false true = (omega arith, omega arith)
+    go false false false = (omega arith, omega arith)
+
+module _ {n : ℕ} {left right words : List ℕ} {k : ℕ} {text : List ℕ} {at : ℕ} (P : NodeRoom n left right words k text at) where
+  W : Words n left right words
+  W = P .given
+
   abbrev textAt : ℕ → List ℕ
   textAt c = nodeText (treeAt n left right c)
 
-  module _ (h : k < n) where
+  module _ (h : k < getD words 2047 0) where
+    leaf : k < n
+    leaf = omega (arith, W .leaf-words .leaves)
+
     leaf-text : textAt k ≡ digits 4 k
     unfolding nodeText
-    leaf-text = rw (tree-leaf n left right k h)
+    leaf-text = rw (tree-leaf n left right k leaf)
 
-    pub leaf-room : (k < 10000) × (at + length (digits 4 k) ≤ length out)
-    leaf-room = (omega (arith, P .rows .few), omega (arith, P .room, ap length leaf-text))
+    pub leaf-room : at + 4 ≤ 6144
+    leaf-room = omega (arith, P .room, ap length leaf-text, some-digits k .0)
 
-    pub leaf-wrote : {l : List ℕ} {r : ℕ} → Wrote (digits 4 k) at out l r → Wrote (textAt k) at out l r
-    leaf-wrote {l} {r} W = subst (λ (w : List ℕ). Wrote w at out l r) (sym leaf-text) W
+    pub leaf-stands : Stands (textAt k) at text (sets text at (wordBytes (getD words k 0))) (at + signCount (getD words k 0))
+    leaf-stands =
+        let small : k < 10000 = omega (arith, leaf, W .rows .few) in
+        let d : signCount (wordOf k) ≡ length (digits 4 k) = word-signs k small in
+        let e : getD words k 0 ≡ wordOf k = W .leaf-words .labels k leaf in
+        subst (λ (w : ℕ). Stands (textAt k) at text (sets text at (wordBytes w)) (at + signCount w)) (sym e)
+        (subst₂ (λ (s : List ℕ) (j : ℕ). Stands s at text (sets text at (wordBytes (wordOf k))) (at + j)) (word-bytes k small ∙ sym leaf-text) (sym d)
+        (stands-first text at (length (digits 4 k)) (wordBytes (wordOf k)) (omega (arith, leaf-room, P .whole)) (some-digits k .1)))
 
-  module _ (h : n ≤ k) where
+    -- and so does what is the same
+    pub leaf-wrote : {text₁ : List ℕ} {j : ℕ} → text₁ ≡ sets text at (wordBytes (getD words k 0)) → j ≡ signCount (getD words k 0) → Stands (textAt k) at text text₁ (at + j)
+    leaf-wrote e f = subst₂ (λ (l : List ℕ) (j : ℕ). Stands (textAt k) at text l (at + j)) (sym e) (sym f) leaf-stands
+
+    pub leaf-end : at + signCount (getD words k 0) ≤ 6144
+    leaf-end = omega (arith, leaf-stands .end, P .room)
+
+  module _ (h′ : getD words 2047 0 ≤ k) where
+    h : n ≤ k
+    h = omega (arith, W .leaf-words .leaves)
+
     row : k - n < n - 1
     row = omega (arith, P .there)
 
-    pub left-child : getD left (k - n) 0 < k
-    left-child = omega (arith, P .rows .left-below (k - n) row)
+    -- the two children
+    abbrev l : ℕ
+    l = getD words k 0 % 65536
 
-    pub right-child : getD right (k - n) 0 < k
-    right-child = omega (arith, P .rows .right-below (k - n) row)
+    abbrev r : ℕ
+    r = getD words k 0 / 65536
+
+    few : n ≤ 1024
+    few = W .rows .few
+
+    word : getD words k 0 ≡ getD left (k - n) 0 + 65536 * getD right (k - n) 0
+    word = let e : n + (k - n) ≡ k = omega arith in ap (λ (i : ℕ). getD words i 0) (sym e) ∙ W .pair-word (k - n) row
+
+    left-is : getD left (k - n) 0 ≡ l
+    left-is = omega (arith, word, W .rows .left-below (k - n) row, few, P .there)
+
+    right-is : getD right (k - n) 0 ≡ r
+    right-is = omega (arith, word, W .rows .left-below (k - n) row, few, P .there)
+
+    pub word-fits : getD words k 0 < 4294967296
+    word-fits = omega (arith, word, W .rows .left-below (k - n) row, W .rows .right-below (k - n) row, few, P .there)
+
+    pub left-child : l < k
+    left-child = omega (arith, left-is, W .rows .left-below (k - n) row)
+
+    pub right-child : r < k
+    right-child = omega (arith, right-is, W .rows .right-below (k - n) row)
 
     -- the text of a pair, the child with the smaller least leaf first
-    pair-text : textAt k ≡ pairText (textAt (getD left (k - n) 0)) (textAt (getD right (k - n) 0))
+    pair-text : textAt k ≡ pairText (textAt l) (textAt r)
     unfolding nodeText
     pair-text =
-        let o = P .rows in
+        let o = W .rows in
         let e : k ≡ n + (k - n) = omega arith in
         let t : treeAt n left right k ≡ node (treeAt n left right (getD left (k - n) 0)) (treeAt n left right (getD right (k - n) 0)) =
         ap (treeAt n left right) e ∙ tree-pair n left right (k - n) row (o .lefts-there) (o .rights-there) (o .left-below (k - n) row) (o .right-below (k - n) row) in
-        rw (t, lt-ltb (least (treeAt n left right (getD left (k - n) 0))) (least (treeAt n left right (getD right (k - n) 0))) (o .smaller-first (k - n) row))
+        rw (t, lt-ltb (least (treeAt n left right (getD left (k - n) 0))) (least (treeAt n left right (getD right (k - n) 0))) (o .smaller-first (k - n) row), left-is, right-is)
 
-    pair-room : at + (length (textAt (getD left (k - n) 0)) + length (textAt (getD right (k - n) 0)) + 3) ≤ length out
-    pair-room = omega (arith, P .room, ap length pair-text, pair-length (textAt (getD left (k - n) 0)) (textAt (getD right (k - n) 0)))
+    pair-room : at + (length (textAt l) + length (textAt r) + 3) + 3 ≤ 6144
+    pair-room = omega (arith, P .room, ap length pair-text, pair-length (textAt l) (textAt r))
 
-    pub open-room : at < length out
+    pub open-room : at < 6144
     open-room = omega (arith, pair-room)
 
-    pub first-room : NodeRoom n left right (getD left (k - n) 0) (set out at 40) (at + 1)
-    first-room =
-        record {
-          rows = P .rows;
-          there = omega (arith, left-child, P .there);
-          room = omega (arith, pair-room, length-set out at 40);
-        }
+    pub first-room : NodeRoom n left right words l (set text at 40) (at + 1)
+    first-room = record { given = W; there = omega (arith, left-child, P .there); whole = length-set text at 40 ∙ P .whole; room = omega (arith, pair-room) }
 
-    module _ {out₁ : List ℕ} {x : ℕ} (F : Wrote (textAt (getD left (k - n) 0)) (at + 1) (set out at 40) out₁ x) where
-      first-length : length out₁ ≡ length out
-      first-length = wrote-length F ∙ length-set out at 40
+    module _ {text₁ : List ℕ} {x : ℕ} (F : Stands (textAt l) (at + 1) (set text at 40) text₁ x) where
+      pub first-whole : length text₁ ≡ 6144
+      first-whole = F .whole ∙ length-set text at 40 ∙ P .whole
 
-      pub comma-room : (x < length out) × (x < length out₁)
-      comma-room = (omega (arith, pair-room, F .end), omega (arith, pair-room, F .end, first-length))
+      pub comma-room : x < 6144
+      comma-room = omega (arith, pair-room, F .end)
 
-      pub second-room : NodeRoom n left right (getD right (k - n) 0) (set out₁ x 44) (x + 1)
-      second-room =
-          record {
-            rows = P .rows;
-            there = omega (arith, right-child, P .there);
-            room = omega (arith, pair-room, F .end, first-length, length-set out₁ x 44);
-          }
+      pub second-room : NodeRoom n left right words r (set text₁ x 44) (x + 1)
+      second-room = record { given = W; there = omega (arith, right-child, P .there); whole = length-set text₁ x 44 ∙ first-whole; room = omega (arith, pair-room, F .end) }
 
-      module _ {out₂ : List ℕ} {y : ℕ} (S : Wrote (textAt (getD right (k - n) 0)) (x + 1) (set out₁ x 44) out₂ y) where
-        second-length : length out₂ ≡ length out
-        second-length = wrote-length S ∙ length-set out₁ x 44 ∙ first-length
+      module _ {text₂ : List ℕ} {y : ℕ} (S : Stands (textAt r) (x + 1) (set text₁ x 44) text₂ y) where
+        pub second-whole : length text₂ ≡ 6144
+        second-whole = S .whole ∙ length-set text₁ x 44 ∙ first-whole
 
-        pub close-room : (y < length out) × (y < length out₂)
-        close-room = (omega (arith, pair-room, F .end, S .end), omega (arith, pair-room, F .end, S .end, second-length))
+        pub close-room : y < 6144
+        close-room = omega (arith, pair-room, F .end, S .end)
 
-        pub pair-wrote : Wrote (textAt k) at out (set out₂ y 41) (y + 1)
-        pair-wrote =
-            subst (λ (w : List ℕ). Wrote w at out (set out₂ y 41) (y + 1)) (sym pair-text)
-            (wrote-pair out out₁ out₂ (textAt (getD left (k - n) 0)) (textAt (getD right (k - n) 0)) at x y F S)
+        pub pair-stands : Stands (textAt k) at text (set text₂ y 41) (y + 1)
+        unfolding pairText
+        pair-stands =
+            subst (λ (w : List ℕ). Stands w at text (set text₂ y 41) (y + 1)) (sym pair-text)
+            (stands-then (stands-sign text at 40 (omega (arith, open-room, P .whole)))
+            (stands-then F (stands-then (stands-sign text₁ x 44 (omega (arith, comma-room, first-whole)))
+            (stands-then S (stands-sign text₂ y 41 (omega (arith, close-room, second-whole)))))))
 
 -- the whole text
-module _ {n : ℕ} {left right : List ℕ} (o : Ordered n left right) (out : List ℕ) (room : length (textOf (wholeTree n left right)) ≤ length out) where
-  pub root-room : NodeRoom n left right (n + (n - 1) - 1) out 0
+module _ {n : ℕ} {left right words text : List ℕ} (T : TextRoom n left right words text) where
+  root : ℕ
+  root = n + (n - 1) - 1
+
+  pub root-room : NodeRoom n left right words (n + (n - 1) - 1) text 0
   unfolding wholeTree
   root-room =
       record {
-        rows = o;
-        there = omega (arith, o .some-leaf);
-        room = omega (arith, room, text-room (treeAt n left right (n + (n - 1) - 1)));
+        given = T .given;
+        there = omega (arith, T .given .rows .some-leaf);
+        whole = T .whole;
+        room = omega (arith, T .room, text-room (treeAt n left right (n + (n - 1) - 1)));
       }
 
-  module _ {out₁ : List ℕ} {x : ℕ} (W : Wrote (nodeText (treeAt n left right (n + (n - 1) - 1))) 0 out out₁ x) where
-    pub end-room : (x < length out) × (x < length out₁)
+  module _ {text₁ : List ℕ} {x : ℕ} (S : Stands (nodeText (treeAt n left right (n + (n - 1) - 1))) 0 text text₁ x) where
+    pub end-room : (x < 6144) × (length text₁ ≡ 6144)
     unfolding wholeTree
-    end-room =
-        let h : x < length out = omega (arith, W .end, room, text-room (treeAt n left right (n + (n - 1) - 1))) in
-        (h, omega (arith, wrote-length W))
+    end-room = (omega (arith, S .end, T .room, text-room (treeAt n left right (n + (n - 1) - 1))), S .whole ∙ T .whole)
 
-    pub text-wrote : Wrote (textOf (wholeTree n left right)) 0 out (set out₁ x 59) (x + 1)
-    unfolding wholeTree
-    text-wrote = wrote-end (treeAt n left right (n + (n - 1) - 1)) out out₁ x W
+    pub text-stands : Stands (textOf (wholeTree n left right)) 0 text (set text₁ x 59) (x + 1)
+    unfolding wholeTree textOf
+    text-stands = stands-then S (stands-sign text₁ x 59 (omega (arith, end-room)))

@@ -1,30 +1,28 @@
--- What is written piece by piece: a number by its digits, a pair by its children, a text by its last sign.
--- Main results: two-there, wrote-1 to wrote-4, wrote-pair, wrote-end.
-use mathlib.Core.Path.{_≡_, refl, ap, ap₂, sym, subst₂, _∙_}
-use mathlib.Core.List.{List, [], _∷_, _++_}
-use Prim.Native.Nat.{ℕ, _+_, _-_, _*_, _/_, _%_}
+-- What is written piece by piece: a number by its digits, a text behind what stands.
+-- Main results: two-there, four-there, wrote-1 to wrote-4, stands-sign, stands-then, stands-first.
+use mathlib.Core.Path.{_≡_, refl, ap, ap₂, sym, _∙_}
+use mathlib.Core.List.{List, [], _∷_, _++_, append-assoc}
+use Prim.Native.Nat.{ℕ, suc, _+_, _-_, _*_, _/_, _%_, _≤_, _<_}
 use native.Mathlib.Omega.{arith}
 use native.Mathlib.Numerals.{add-one}
-use lib.ListN.{length, set, length-append}
-use lib.Seq.{sets, length-sets}
-use Rattle.rules.specs.Newick.{pairText, nodeText, textOf}
+use lib.ListN.{length, take, drop, set, length-append, length-set}
+use lib.Seq.{sets, length-sets, sets-eq, length-take-le, take-suc-set, take-append-add, take-append-le}
+use Rattle.rules.specs.Newick.{nodeText, textOf}
 use Rattle.rules.specs.Tree.{Tree}
 use Rattle.grammar.specs.Decimal.{twoDigits}
-use Rattle.grammar.specs.Length.{pair-length}
 use Rattle.grammar.specs.Stores.{sets-append}
-use Rattle.text_writer.specs.Output.{Wrote}
-
-pub wrote-as : {w : List ℕ} {at : ℕ} {l l₁ l₂ : List ℕ} {r s : ℕ} → l₂ ≡ l₁ → s ≡ r → Wrote w at l l₁ r → Wrote w at l l₂ s
-wrote-as {w} {at} {l} a b W = subst₂ (Wrote w at l) (sym a) (sym b) W
-
--- what is written keeps the length
-pub wrote-length : {w : List ℕ} {at : ℕ} {l l₁ : List ℕ} {r : ℕ} → Wrote w at l l₁ r → length l₁ ≡ length l
-wrote-length {w} {at} {l} W = ap length (W .bytes-there) ∙ length-sets l at w
+use Rattle.text_writer.specs.Output.{Wrote, Stands}
 
 pub two-there : (l : List ℕ) (at x a b : ℕ) → a ≡ 48 + x / 10 → b ≡ 48 + (x - 10 * (x / 10)) → set (set l at a) (at + 1) b ≡ sets l at (twoDigits x)
 two-there l at x a b p q =
     let r : b ≡ 48 + x % 10 = omega arith in
     rw (p, r, add-one)
+
+pub four-there : (l : List ℕ) (at a b c d : ℕ) → set (set (set (set l at a) (at + 1) b) (at + 2) c) (at + 3) d ≡ sets l at (a ∷ b ∷ c ∷ d ∷ [])
+four-there l at a b c d =
+    let p : at + 2 ≡ suc (suc at) = omega arith in
+    let q : at + 3 ≡ suc (suc (suc at)) = omega arith in
+    rw (add-one, p, q)
 
 module _ (l : List ℕ) (at : ℕ) (w : List ℕ) where
   pub wrote-1 : (a : ℕ) → w ≡ a ∷ [] → Wrote w at l (set l at a) (at + 1)
@@ -41,29 +39,31 @@ module _ (l : List ℕ) (at : ℕ) (w : List ℕ) where
   wrote-4 x y l₁ l₂ e a b =
       rw e (record { end = refl; bytes-there = b ∙ ap (λ (m : List ℕ). sets m (at + 2) (twoDigits y)) a ∙ sym (sets-append l at (twoDigits x) (twoDigits y)) })
 
-in-a-row : (l l₁ l₂ u v : List ℕ) (at x y : ℕ) → x ≡ at + 1 + length u → l₁ ≡ sets (set l at 40) (at + 1) u
-    → y ≡ x + 1 + length v → l₂ ≡ sets (set l₁ x 44) (x + 1) v
-    → set l₂ y 41 ≡ sets l at (40 ∷ (u ++ (44 ∷ (v ++ (41 ∷ [])))))
-in-a-row l l₁ l₂ u v at x y a b c d = simp (d, c, b, a, add-one, sets-append)
+-- one sign stands behind what stood before it
+pub stands-sign : (l : List ℕ) (at c : ℕ) → at < length l → Stands (c ∷ []) at l (set l at c) (at + 1)
+stands-sign l at c h = record { end = refl; whole = length-set l at c; front = rw (add-one at) (take-suc-set l at c h) }
 
--- "(" node "," node ")" written in a row
-pub wrote-pair : (l l₁ l₂ u v : List ℕ) (at x y : ℕ) → Wrote u (at + 1) (set l at 40) l₁ x → Wrote v (x + 1) (set l₁ x 44) l₂ y
-    → Wrote (pairText u v) at l (set l₂ y 41) (y + 1)
-unfolding pairText
-wrote-pair l l₁ l₂ u v at x y a b =
+-- what stands behind what stands
+pub stands-then : {u v : List ℕ} {at x y : ℕ} {l l₁ l₂ : List ℕ} → Stands u at l l₁ x → Stands v x l₁ l₂ y → Stands (u ++ v) at l l₂ y
+stands-then {u} {v} {at} {x} {y} {l} {l₁} {l₂} A B =
     record {
-      end = omega (arith, a .end, b .end, pair-length u v);
-      bytes-there = in-a-row l l₁ l₂ u v at x y (a .end) (a .bytes-there) (b .end) (b .bytes-there);
+      end = omega (arith, A .end, B .end, length-append u v);
+      whole = B .whole ∙ A .whole;
+      front = B .front ∙ ap (λ (k : List ℕ). k ++ v) (A .front) ∙ append-assoc (take at l) u v;
+    }
+
+-- the first bytes of what is stored stand
+pub stands-first : (l : List ℕ) (at k : ℕ) (bytes : List ℕ) → at + length bytes ≤ length l → k ≤ length bytes → Stands (take k bytes) at l (sets l at bytes) (at + k)
+stands-first l at k bytes h g =
+    let e : length (take at l) + k ≡ at + k = omega (arith, length-take-le at l (omega arith)) in
+    record {
+      end = omega (arith, length-take-le k bytes g);
+      whole = length-sets l at bytes;
+      front =
+          ap₂ take (sym e) (sets-eq bytes l at h ∙ append-assoc (take at l) bytes (drop (at + length bytes) l)) ∙ take-append-add (take at l) (bytes ++ drop (at + length bytes) l) k
+          ∙ ap (λ (b : List ℕ). take at l ++ b) (take-append-le k bytes (drop (at + length bytes) l) g);
     }
 
 pub text-room : (t : Tree) → length (textOf t) ≡ length (nodeText t) + 1
 unfolding textOf
 text-room t = length-append (nodeText t) (59 ∷ [])
-
-pub wrote-end : (t : Tree) (l l₁ : List ℕ) (x : ℕ) → Wrote (nodeText t) 0 l l₁ x → Wrote (textOf t) 0 l (set l₁ x 59) (x + 1)
-unfolding textOf
-wrote-end t l l₁ x a =
-    record {
-      end = omega (arith, a .end, length-append (nodeText t) (59 ∷ []));
-      bytes-there = ap₂ (λ (m : List ℕ) (k : ℕ). set m k 59) (a .bytes-there) (a .end) ∙ sym (sets-append l 0 (nodeText t) (59 ∷ []));
-    }

@@ -1,12 +1,21 @@
 // Newick text: the writer below the public calls.
-ghost use Prim.Native.Nat.{_+_, _-_, _≤_, _<_};
+//
+// A tree with n leaves is written from one array of words, one for each node, since each further array that a call passes on costs
+// more than a label does. The word of a leaf is the signs of its label, the first one lowest; where there are fewer than four, the highest
+// byte says how many. The word of a pair is its two children, the first one lowest.
+ghost use Prim.Native.Nat.{ℕ, _+_, _-_, _*_, _≤_, _<_, min};
 ghost use mathlib.Core.Path.{_≡_};
+ghost use mathlib.Core.List.{List};
 ghost use lib.ListN.{length};
 ghost use lib.Seq.{sets};
 ghost use Rattle.rules.specs.Newick.{digits, nodeText, textOf};
 ghost use Rattle.grammar.specs.Decimal.{twoDigits};
 ghost use Rattle.table_laws.specs.Tied.{treeAt, wholeTree};
-ghost use Rattle.text_writer.specs.Output.{Wrote, Ordered, NodeRoom};
+ghost use Rattle.text_writer.specs.Words.{wordBytes, signCount, wordOf, Longer};
+ghost use Rattle.text_writer.specs.Output.{Wrote, LeafWords, Tens, TenMore, NodeRoom, TextRoom, Stands};
+
+// Where words has the number of leaves: behind the nodes, of which there are at most 2,047.
+const LEAVES: usize = 2047;
 
 // The sign of a digit.
 fn sign(d: u16) -> u8
@@ -53,50 +62,103 @@ pub fn write_label(x: usize, out: &mut [u8], at: usize) -> usize
     at + 4
 }
 
-// The text of a pair, whose children have lower numbers. A child that is a leaf is written right here: half of all nodes are leaves,
-// and a call takes more than their digits.
-fn write_node(
-    left: &[u16],
-    right: &[u16],
-    n: usize,
-    node: usize,
-    out: &mut [u8],
-    at: usize,
-) -> usize
-    requires { ⌜ NodeRoom n (now left) (now right) node (now out) at × (n ≤ node) ⌝ }
-    ensures { λ r. ⌜ Wrote (nodeText (treeAt n (now (left .entry)) (now (right .entry)) node)) at (now (out .entry)) (now (out .exit)) r ⌝ }
+// The words of ten labels that differ in their last digit, from the first of them.
+fn ten_words(words: &mut [u32], at: usize, first: u32, step: u32)
+    requires { ⌜ (at + 10 ≤ length (now words)) × (first ≤ 1000000000) × (step ≤ 16777216) ⌝ }
+    ensures { λ _. ⌜ TenMore (now (words .entry)) at first step (now (words .exit)) ⌝ }
 {
-    let k = node - n;
-    let l = left[k] as usize;
-    let r = right[k] as usize;
-    out[at] = 40;
-    let x = if l < n {
-        write_label(l, out, at + 1)
-    } else {
-        write_node(left, right, n, l, out, at + 1)
-    };
-    out[x] = 44;
-    let y = if r < n {
-        write_label(r, out, x + 1)
-    } else {
-        write_node(left, right, n, r, out, x + 1)
-    };
-    out[y] = 41;
+    let mut d: usize = 0;
+    while d < 10 {
+        words[at + d] = first + d as u32 * step;
+        d += 1;
+    }
+}
+
+// The words of the labels that continue the labels from one on, below another, by one digit. The result is the label that would come next.
+fn longer_labels(words: &mut [u32], from: usize, to: usize, more: u32, step: u32) -> usize
+    requires { ⌜ (1 ≤ from) × (to ≤ 103) × (more ≤ 900000000) × (step ≤ 16777216) × Tens from (now words) × Longer from to more step ⌝ }
+    ensures { λ r. ⌜ Tens r (now (words .exit)) × (from ≤ r) × (to ≤ r) ⌝ }
+{
+    let mut y = from;
+    while y < to {
+        let first = words[y] + more;
+        ten_words(words, 10 * y, first, step);
+        y += 1;
+    }
+    y
+}
+
+fn lesser(x: usize, y: usize) -> usize
+    ensures { λ r. ⌜ r ≡ min x y ⌝ }
+{
+    if x < y {
+        return x;
+    }
+    y
+}
+
+// The words of n leaves: first the labels of one digit, then those of two, three and four.
+pub fn leaf_words(words: &mut [u32], n: usize)
+    requires { ⌜ (n ≤ 1024) × (length (now words) ≡ 2048) ⌝ }
+    ensures { λ _. ⌜ LeafWords n (now (words .exit)) ⌝ }
+{
+    ten_words(words, 0, 16777264, 1);
+    let tens = (n + 9) / 10;
+    let a = longer_labels(words, 1, lesser(tens, 10), 16789504, 256);
+    let b = longer_labels(words, a, lesser(tens, 100), 19922944, 65536);
+    longer_labels(words, b, tens, 754974720, 16777216);
+    words[LEAVES] = n as u32;
+}
+
+// The four bytes of a word, the lowest first: the compiler makes one store of them.
+fn put_word(w: u32, text: &mut [u8; 6144], at: usize)
+    requires { ⌜ (at + 4 ≤ 6144) × (length (now text) ≡ 6144) ⌝ }
+    ensures { λ _. ⌜ now (text .exit) ≡ sets (now (text .entry)) at (wordBytes w) ⌝ }
+{
+    text[at] = (w % 256) as u8;
+    text[at + 1] = (w / 256 % 256) as u8;
+    text[at + 2] = (w / 65536 % 256) as u8;
+    text[at + 3] = (w / 16777216 % 256) as u8;
+}
+
+// How many signs a label has, by its word.
+fn sign_count(w: u32) -> usize
+    ensures { λ r. ⌜ r ≡ signCount w ⌝ }
+{
+    let count = w / 16777216;
+    if count < 4 {
+        return count as usize;
+    }
+    4
+}
+
+// The text of a node, leaf or pair. Behind a label stand the bytes of its word that are no signs: what follows overwrites them. The pair's word is read behind its bracket,
+// so that a leaf keeps no registers for it.
+fn write_node(words: &[u32; 2048], node: usize, text: &mut [u8; 6144], at: usize) -> usize
+    requires { ⌜ ((n : ℕ) × (left : List ℕ) × (right : List ℕ) × NodeRoom n left right (now words) node (now text) at) ⌝ }
+    ensures { λ r. ⌜ ((n : ℕ) (left right : List ℕ) → NodeRoom n left right (now (words .entry)) node (now (text .entry)) at → Stands (nodeText (treeAt n left right node)) at (now (text .entry)) (now (text .exit)) r) ⌝ }
+{
+    if node < words[LEAVES] as usize {
+        let w = words[node];
+        put_word(w, text, at);
+        return at + sign_count(w);
+    }
+    text[at] = 40;
+    let w = words[node];
+    let x = write_node(words, (w % 65536) as usize, text, at + 1);
+    text[x] = 44;
+    let y = write_node(words, (w / 65536) as usize, text, x + 1);
+    text[y] = 41;
     y + 1
 }
 
-// The text of the tree of n leaves whose pairs have these children.
-pub fn write_text(left: &[u16], right: &[u16], n: usize, out: &mut [u8]) -> usize
-    requires { ⌜ Ordered n (now left) (now right) ⌝ }
-    requires { ⌜ length (textOf (wholeTree n (now left) (now right))) ≤ length (now out) ⌝ }
-    ensures { λ r. ⌜ Wrote (textOf (wholeTree n (now (left .entry)) (now (right .entry)))) 0 (now (out .entry)) (now (out .exit)) r ⌝ }
+// The text of the tree whose nodes have these words.
+pub fn write_text(words: &[u32; 2048], n: usize, text: &mut [u8; 6144]) -> usize
+    requires { ⌜ ((left : List ℕ) × (right : List ℕ) × TextRoom n left right (now words) (now text)) ⌝ }
+    ensures { λ r. ⌜ ((left right : List ℕ) → TextRoom n left right (now (words .entry)) (now (text .entry)) → Stands (textOf (wholeTree n left right)) 0 (now (text .entry)) (now (text .exit)) r) ⌝ }
 {
     let root = n + (n - 1) - 1;
-    let x = if root < n {
-        write_label(root, out, 0)
-    } else {
-        write_node(left, right, n, root, out, 0)
-    };
-    out[x] = 59;
+    let x = write_node(words, root, text, 0);
+    text[x] = 59;
     x + 1
 }

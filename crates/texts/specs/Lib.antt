@@ -1,4 +1,5 @@
 pub mod Long
+pub mod Paired
 pub mod Standing
 pub mod Kept
 pub mod Given

@@ -1,14 +1,14 @@
 -- The rows of a vector, as children by their numbers: each child stands before its row's node, the child with the smaller
 -- least leaf first, and the tree of the last node is the vector's.
--- Main results: least-first, rows-ordered, rows-tree, text-fits, text-there.
+-- Main results: least-first, text-fits, text-end, text-there.
 use mathlib.Core.Bool.{Bool, true, false, cond}
 use mathlib.Core.List.{List, [], _∷_, _++_, map}
 use mathlib.Core.Path.{_≡_, refl, sym, ap, ap₂, _∙_}
 use Prim.Native.Nat.{ℕ, zero, suc, _+_, _-_, _≤_, _<_, min}
 use native.Mathlib.Omega.{arith}
 use lib.Dec.{eqb}
-use lib.ListN.{length, getD, take, drop, length-map, length-append}
-use lib.Seq.{take-at, sets-eq}
+use lib.ListN.{length, getD, take, drop, length-map, List·getD-map}
+use lib.Seq.{take-all}
 use borrow.Author.Tests.{eqb-true, eq-eqb, ne-eqb}
 use Rattle.rules.specs.Vector.{entry, Valid}
 use Rattle.rules.specs.Building.{Merge}
@@ -19,12 +19,13 @@ use Rattle.merging.specs.Insertion.{pairsOf, pairs, pairs-count, valid-bounded}
 use Rattle.merging.specs.Greedy.{Under, under-pairs}
 use Rattle.merging.specs.Named.{named, Good, good, Rising, rising, smaller-named, larger-named, still-named, named-below}
 use Rattle.laws.specs.TreeOf.{tree-by-pairs, tree-leaves}
-use Rattle.grammar.specs.Length.{textLength, text-length}
+use Rattle.grammar.specs.Length.{textLength, text-length, text-length-most}
 use Rattle.table_laws.specs.Tied.{tied, treeAt, wholeTree, tree-whole}
 use Rattle.table_laws.specs.Rows.{first, second, rows-length, tied-rows, renumber}
 use Rattle.table_laws.specs.Accepted.{pairs-below}
 use Rattle.table_laws.specs.Grown.{pairs-tree}
-use Rattle.text_writer.specs.Output.{Ordered, Wrote}
+use Rattle.text_writer.specs.Output.{Ordered, TextRoom, Stands}
+use Rattle.texts.specs.Paired.{Paired}
 
 -- the nodes after a row
 abbrev above : Clusters → ℕ → ℕ → ℕ → Clusters
@@ -80,36 +81,38 @@ least-first (m ∷ P) p number C G R N zero h =
 least-first (m ∷ P) p number C G R N (suc j) h =
     least-first P (p + 1) (renumber number (m .0) p) (above C p (number (m .0)) (number (m .1))) (G .2) (R .1) (named-next m P p number C G (R .0) N) j (omega arith)
 
--- an element of a list that is kept in front
-pub front-at : {A : Type 0} (f : A → ℕ) (d : A) (xs : List A) (rest : List ℕ) (i : ℕ) → i < length xs → getD (map f xs ++ rest) i 0 ≡ f (getD xs i d)
-front-at f d [] rest i h = absurd (omega arith)
-front-at f d (x ∷ xs) rest zero h = refl
-front-at f d (x ∷ xs) rest (suc i) h = front-at f d xs rest i (omega arith)
-
 -- the rows of a vector
 abbrev pub vectorRows : List ℕ → List Row
 vectorRows v = rowsFrom (length v) (λ c. c) (pairs v)
 
-module _ (v left right more more′ : List ℕ) (ok : Valid v) (few : length v ≤ 1024)
-    (l : left ≡ map first (vectorRows v) ++ more) (r : right ≡ map second (vectorRows v) ++ more′) where
+module _ (v : List ℕ) (ok : Valid v) (few : length v ≤ 1024) where
+  -- the children of the rows
+  abbrev pub lefts : List ℕ
+  lefts = map first (vectorRows v)
+
+  abbrev pub rights : List ℕ
+  rights = map second (vectorRows v)
+
   count : length (vectorRows v) ≡ length v - 1
   unfolding pairs
   count = rows-length (length v) (λ c. c) (pairs v) ∙ pairs-count (entry v) (length v)
 
-  lefts : take (length v - 1) left ≡ map first (vectorRows v)
-  lefts = ap (take (length v - 1)) l ∙ take-at (map first (vectorRows v)) more (length v - 1) (length-map (vectorRows v) first ∙ count)
+  left-count : length lefts ≡ length v - 1
+  left-count = length-map (vectorRows v) first ∙ count
 
-  rights : take (length v - 1) right ≡ map second (vectorRows v)
-  rights = ap (take (length v - 1)) r ∙ take-at (map second (vectorRows v)) more′ (length v - 1) (length-map (vectorRows v) second ∙ count)
+  right-count : length rights ≡ length v - 1
+  right-count = length-map (vectorRows v) second ∙ count
 
-  table : tied (length v) (take (length v - 1) left) (take (length v - 1) right) ≡ vectorRows v
-  table = ap₂ (tied (length v)) lefts rights ∙ tied-rows (length v) (λ c. c) (pairs v)
+  table : tied (length v) (take (length v - 1) lefts) (take (length v - 1) rights) ≡ vectorRows v
+  table =
+      ap₂ (tied (length v)) (take-all (length v - 1) lefts (omega (arith, left-count))) (take-all (length v - 1) rights (omega (arith, right-count)))
+      ∙ tied-rows (length v) (λ c. c) (pairs v)
 
-  left-at : (j : ℕ) → j < length v - 1 → getD left j 0 ≡ getD (vectorRows v) j (0, 0, 0) .0
-  left-at j h = ap (λ (xs : List ℕ). getD xs j 0) l ∙ front-at first (0, 0, 0) (vectorRows v) more j (omega (arith, count))
+  left-at : (j : ℕ) → getD lefts j 0 ≡ getD (vectorRows v) j (0, 0, 0) .0
+  left-at j = List·getD-map first (vectorRows v) j (0, 0, 0)
 
-  right-at : (j : ℕ) → j < length v - 1 → getD right j 0 ≡ getD (vectorRows v) j (0, 0, 0) .1
-  right-at j h = ap (λ (xs : List ℕ). getD xs j 0) r ∙ front-at second (0, 0, 0) (vectorRows v) more′ j (omega (arith, count))
+  right-at : (j : ℕ) → getD rights j 0 ≡ getD (vectorRows v) j (0, 0, 0) .1
+  right-at j = List·getD-map second (vectorRows v) j (0, 0, 0)
 
   in-rows : (j : ℕ) → j < length v - 1
       → least (nodesOf (vectorRows v) leaf (getD (vectorRows v) j (0, 0, 0) .0)) < least (nodesOf (vectorRows v) leaf (getD (vectorRows v) j (0, 0, 0) .1))
@@ -120,38 +123,43 @@ module _ (v left right more more′ : List ℕ) (ok : Valid v) (few : length v �
       let N : Named P n (λ c. c) leaf = record { below = named-below n P (ok .some-leaf) (under-pairs (entry v) n); name = λ x e. refl } in
       least-first P n (λ c. c) leaf (good (entry v) n (valid-bounded v ok)) (rising (entry v) n (valid-bounded v ok)) N j (omega (arith, pairs-count (entry v) (length v)))
 
-  there-left : length v - 1 ≤ length left
-  there-left = omega (arith, ap length l, length-append (map first (vectorRows v)) more, length-map (vectorRows v) first, count)
-
-  there-right : length v - 1 ≤ length right
-  there-right = omega (arith, ap length r, length-append (map second (vectorRows v)) more′, length-map (vectorRows v) second, count)
-
-  pub rows-ordered : Ordered (length v) left right
+  rows-ordered : Ordered (length v) lefts rights
   unfolding treeAt
   rows-ordered = record {
     some-leaf = ok .some-leaf;
     few = few;
-    lefts-there = there-left;
-    rights-there = there-right;
-    left-below = λ j h. omega (arith, left-at j h, pairs-below v ok j h .0);
-    right-below = λ j h. omega (arith, right-at j h, pairs-below v ok j h .1);
-    smaller-first = λ j h. rw (table, left-at j h, right-at j h) (in-rows j h);
+    lefts-there = omega (arith, left-count);
+    rights-there = omega (arith, right-count);
+    left-below = λ j h. omega (arith, left-at j, pairs-below v ok j h .0);
+    right-below = λ j h. omega (arith, right-at j, pairs-below v ok j h .1);
+    smaller-first = λ j h. rw (table, left-at j, right-at j) (in-rows j h);
   }
 
-  pub rows-tree : wholeTree (length v) left right ≡ treeOf v
+  rows-tree : wholeTree (length v) lefts rights ≡ treeOf v
   rows-tree =
-      tree-whole (length v) left right (ok .some-leaf) there-left there-right ∙ ap (tableTree (length v)) table ∙ pairs-tree v ok
+      tree-whole (length v) lefts rights (ok .some-leaf) (omega (arith, left-count)) (omega (arith, right-count)) ∙ ap (tableTree (length v)) table ∙ pairs-tree v ok
       ∙ sym (tree-by-pairs v ok)
 
-  text-count : length (textOf (wholeTree (length v) left right)) ≡ textLength (length v)
+  text-count : length (textOf (wholeTree (length v) lefts rights)) ≡ textLength (length v)
   text-count = ap (λ (t : Tree). length (textOf t)) rows-tree ∙ text-length (length v) (treeOf v) (tree-leaves v ok)
 
-  pub text-fits : (room : ℕ) → textLength (length v) ≤ room → length (textOf (wholeTree (length v) left right)) ≤ room
-  text-fits room h = omega (arith, text-count)
+  -- the words are those of the rows, and there is room for the text
+  pub text-fits : (words text : List ℕ) → Paired (length v) (vectorRows v) words → length text ≡ 6144 → TextRoom (length v) lefts rights words text
+  text-fits words text P e = record {
+    given = record {
+      rows = rows-ordered;
+      leaf-words = P .leaf-words;
+      pair-word = λ j h. P .pair-words j h ∙ omega (arith, left-at j, right-at j);
+    };
+    whole = e;
+    room = omega (arith, text-count, text-length-most (length v) few);
+  }
 
-  pub text-there : (out out′ : List ℕ) (k : ℕ) → textLength (length v) ≤ length out → Wrote (textOf (wholeTree (length v) left right)) 0 out out′ k
-      → out′ ≡ textOf (treeOf v) ++ drop (textLength (length v)) out
-  text-there out out′ k h W =
-      let z : 0 + length (textOf (wholeTree (length v) left right)) ≡ textLength (length v) = omega (arith, text-count) in
-      W .bytes-there ∙ sets-eq (textOf (wholeTree (length v) left right)) out 0 (omega (arith, text-count))
-      ∙ ap₂ (λ (t : Tree) (j : ℕ). textOf t ++ drop j out) rows-tree z
+  module _ (text text′ : List ℕ) (k : ℕ) (S : Stands (textOf (wholeTree (length v) lefts rights)) 0 text text′ k) where
+    pub text-end : k ≡ textLength (length v)
+    text-end = S .end ∙ omega (arith, text-count)
+
+    -- what is copied out is the text of v's tree
+    pub text-there : (out out′ : List ℕ) → out′ ≡ take k text′ ++ drop k out → out′ ≡ textOf (treeOf v) ++ drop (textLength (length v)) out
+    text-there out out′ e =
+        e ∙ ap₂ (λ (t : List ℕ) (j : ℕ). t ++ drop j out) (S .front ∙ ap textOf rows-tree) text-end

@@ -1,50 +1,48 @@
-use Rattle.texts.specs.Standing.{rows-ordered, text-fits, text-there}
 use native.Mathlib.Omega.{arith}
 use borrow.Author.Needs.{needs}
+use mathlib.Core.Path.{refl, sym}
+use Rattle.grammar.specs.Length.{text-length-most}
+use Rattle.texts.specs.Standing.{lefts, rights, text-fits, text-end, text-there}
 use Rattle.texts.proofs.write_tree.Statement.{statement}
 use Rattle.texts.proofs.write_tree.Tie as tie
 use Rattle.texts.proofs.write_tree.Reads as reads
 use Rattle.texts.proofs.write_tree.Lts as lts
 use Rattle.text_writer.proofs.write_text.Reads as write-text-reads
-use Rattle.table.proofs.rows_of.Reads as rows-of-reads
+use Rattle.texts.proofs.copy_text.Reads as copy-text-reads
+use Rattle.texts.proofs.tree_words.Reads as tree-words-reads
 
-slice-aggregate-rows-of : tie.Need-slice-aggregate-rows-of
-slice-aggregate-rows-of c = search needs
+slice-aggregate-tree-words : tie.Need-slice-aggregate-tree-words
+slice-aggregate-tree-words c = search needs
 
-slice-aggregate-rows-of-2 : tie.Need-slice-aggregate-rows-of-2
-slice-aggregate-rows-of-2 c = search needs
-
-rows-of-requires : tie.Need-rows-of-requires
-rows-of-requires c κs = search needs
-
-slice-aggregate-write-text : tie.Need-slice-aggregate-write-text
-slice-aggregate-write-text c = search needs
-
-slice-aggregate-write-text-2 : tie.Need-slice-aggregate-write-text-2
-slice-aggregate-write-text-2 c = search needs
+tree-words-requires : tie.Need-tree-words-requires
+tree-words-requires c κs = search needs
 
 write-text-requires : tie.Need-write-text-requires
-write-text-requires c κs = let P = c .before .before .before .before .before .before .before .before .before .before .pre in
-    let L = c .before .before .before .before .before .rows-of .ensures in
-    (rows-ordered _ _ _ _ _ (P .0) (P .1) (L .0) (L .1), text-fits _ _ _ _ _ (P .0) (P .1) (L .0) (L .1) _ (P .2))
+write-text-requires c κs = (lefts (c .before .before .before .before .before .before .before .args .v .now) (c .before .before .before .before .before .before .before .pre .0) (c .before .before .before .before .before .before .before .pre .1), rights (c .before .before .before .before .before .before .before .args .v .now) (c .before .before .before .before .before .before .before .pre .0) (c .before .before .before .before .before .before .before .pre .1), text-fits (c .before .before .before .before .before .before .before .args .v .now) (c .before .before .before .before .before .before .before .pre .0) (c .before .before .before .before .before .before .before .pre .1) _ _ (c .before .before .before .tree-words .ensures) refl)
+
+slice-aggregate-copy-text : tie.Need-slice-aggregate-copy-text
+slice-aggregate-copy-text c = sym (c .before .write-text .ensures _ _ (text-fits (c .before .before .before .before .before .before .before .before .before .args .v .now) (c .before .before .before .before .before .before .before .before .before .pre .0) (c .before .before .before .before .before .before .before .before .before .pre .1) _ _ (c .before .before .before .before .before .tree-words .ensures) refl) .whole)
+
+copy-text-requires : tie.Need-copy-text-requires
+copy-text-requires c κs = let S = c .before .before .write-text .ensures _ _ (text-fits (c .before .before .before .before .before .before .before .before .before .before .args .v .now) (c .before .before .before .before .before .before .before .before .before .before .pre .0) (c .before .before .before .before .before .before .before .before .before .before .pre .1) _ _ (c .before .before .before .before .before .before .tree-words .ensures) refl) in
+    let e = text-end (c .before .before .before .before .before .before .before .before .before .before .args .v .now) (c .before .before .before .before .before .before .before .before .before .before .pre .0) (c .before .before .before .before .before .before .before .before .before .before .pre .1) _ _ _ S in
+    (omega (arith, e, S .whole, text-length-most _ (c .before .before .before .before .before .before .before .before .before .before .pre .1)), omega (arith, e, c .before .before .before .before .before .before .before .before .before .before .pre .2))
 
 same-length : tie.Need-same-length
 same-length c = search needs
 
 returns : tie.Need-returns
-returns c = let P = c .before .before .before .before .before .before .before .before .before .before .before .before .before .pre in
-    let L = c .before .before .before .before .before .before .before .before .rows-of .ensures in
-    text-there _ _ _ _ _ (P .0) (P .1) (L .0) (L .1) _ _ _ (P .2) (c .before .before .write-text .ensures)
+returns c = let S = c .before .before .before .before .before .write-text .ensures _ _ (text-fits (c .before .before .before .before .before .before .before .before .before .before .before .before .before .args .v .now) (c .before .before .before .before .before .before .before .before .before .before .before .before .before .pre .0) (c .before .before .before .before .before .before .before .before .before .before .before .before .before .pre .1) _ _ (c .before .before .before .before .before .before .before .before .before .tree-words .ensures) refl) in
+    text-there (c .before .before .before .before .before .before .before .before .before .before .before .before .before .args .v .now) (c .before .before .before .before .before .before .before .before .before .before .before .before .before .pre .0) (c .before .before .before .before .before .before .before .before .before .before .before .before .before .pre .1) _ _ _ S _ _ (c .before .before .copy-text .ensures)
 
 pub write-tree-spec : {M : Type 1} → statement M
 write-tree-spec =
     tie.close
     (tie.spec
-    slice-aggregate-rows-of
-    slice-aggregate-rows-of-2
-    rows-of-requires
-    slice-aggregate-write-text
-    slice-aggregate-write-text-2
+    slice-aggregate-tree-words
+    tree-words-requires
     write-text-requires
+    slice-aggregate-copy-text
+    copy-text-requires
     same-length
     returns)

@@ -1,0 +1,64 @@
+use native.Mathlib.Omega.{arith}
+use borrow.Author.Needs.{needs}
+use lib.ListN.{length-set}
+use Rattle.text_writer.specs.Words.{word-two, word-three, word-four}
+use Rattle.text_writer.proofs.Tens.{first-ten, reaches, all-labels}
+use Rattle.text_writer.proofs.leaf_words.Statement.{statement}
+use Rattle.text_writer.proofs.leaf_words.Tie as tie
+use Rattle.text_writer.proofs.leaf_words.Reads as reads
+use Rattle.text_writer.proofs.leaf_words.Lts as lts
+use Rattle.text_writer.proofs.lesser.Reads as lesser-reads
+use Rattle.text_writer.proofs.longer_labels.Reads as longer-labels-reads
+use Rattle.text_writer.proofs.ten_words.Reads as ten-words-reads
+
+ten-words-requires : tie.Need-ten-words-requires
+ten-words-requires c κs = search needs
+
+add-tens : tie.Need-add-tens
+add-tens c = search needs
+
+lesser-requires : tie.Need-lesser-requires
+lesser-requires c κs = search needs
+
+longer-labels-requires : tie.Need-longer-labels-requires
+longer-labels-requires c κs = (omega arith, omega (arith, c .lesser .ensures), omega arith, omega arith, first-ten (c .before .before .before .before .before .before .before .pre .1) (c .before .before .before .before .ten-words .ensures), word-two _ (omega (arith, c .lesser .ensures)))
+
+lesser-requires-2 : tie.Need-lesser-requires-2
+lesser-requires-2 c κs = search needs
+
+longer-labels-requires-2 : tie.Need-longer-labels-requires-2
+longer-labels-requires-2 c κs = let L = c .before .before .before .before .longer-labels .ensures in
+    (omega (arith, L .1), omega (arith, c .lesser2 .ensures, c .before .before .before .before .before .before .before .before .before .before .before .before .pre .0), omega arith, omega arith, L .0, word-three _ _ (λ h. reaches _ 10 _ _ (c .before .before .before .before .before .lesser .ensures) (L .2) (omega (arith, c .lesser2 .ensures))) (omega (arith, c .lesser2 .ensures)))
+
+longer-labels-requires-3 : tie.Need-longer-labels-requires-3
+longer-labels-requires-3 c κs = let L = c .before .before .before .longer-labels2 .ensures in
+    (omega (arith, L .1, c .before .before .before .before .before .before .before .before .longer-labels .ensures .1), omega (arith, c .before .before .before .before .before .before .before .before .before .before .before .before .before .before .before .before .pre .0), omega arith, omega arith, L .0, word-four _ _ (λ h. reaches _ 100 _ _ (c .before .before .before .before .lesser2 .ensures) (L .2) h) (omega (arith, c .before .before .before .before .before .before .before .before .before .before .before .before .before .before .before .before .pre .0)))
+
+cast-words : tie.Need-cast-words
+cast-words c = search needs
+
+slice-write-words : tie.Need-slice-write-words
+slice-write-words c = omega (arith, c .before .before .longer-labels3 .ensures .0 .long)
+
+same-length : tie.Need-same-length
+same-length c = let p = c .before .before .before .before .before .before .before .before .before .before .before .before .before .before .before .before .before .before .before .pre .1 in let q = c .before .before .longer-labels3 .ensures .0 .long in simp length-set (omega arith)
+
+returns : tie.Need-returns
+returns c = let L = c .before .before .longer-labels3 .ensures in
+    all-labels _ (L .0) (omega (arith, L .2)) (c .before .before .before .before .before .before .before .before .before .before .before .before .before .before .before .before .before .before .before .pre .0)
+
+pub leaf-words-spec : {M : Type 1} → statement M
+leaf-words-spec =
+    tie.close
+    (tie.spec
+    ten-words-requires
+    add-tens
+    lesser-requires
+    longer-labels-requires
+    lesser-requires-2
+    longer-labels-requires-2
+    longer-labels-requires-3
+    cast-words
+    slice-write-words
+    same-length
+    returns)
