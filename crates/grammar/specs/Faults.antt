@@ -23,11 +23,11 @@ unfolding member
 fits n used [] = true
 fits n used (x ∷ xs) = cond (not (ltb x n) || member x used) false (fits n (x ∷ used) xs)
 
-abbrev isNone : Option ℕ → Bool
+abbrev pub isNone : Option ℕ → Bool
 isNone none = true
 isNone (some x) = false
 
-fault-fits : (n : ℕ) (used : List ℕ) (ls : List Placed) → isNone (labelFault n used ls) ≡ fits n used (map value ls)
+pub fault-fits : (n : ℕ) (used : List ℕ) (ls : List Placed) → isNone (labelFault n used ls) ≡ fits n used (map value ls)
 unfolding labelFault fits
 fault-fits n used [] = refl
 fault-fits n used (l ∷ ls) = go (not (ltb (l .1) n) || member (l .1) used) (fault-fits n (l .1 ∷ used) ls)
@@ -122,7 +122,7 @@ leaves-fit n (node l r) used rest h =
     apart x true e g = absurd (h .once .0 x e g)
     apart x false e g = rw e
 
-is-none : (o : Option ℕ) → isNone o ≡ true → o ≡ none
+pub is-none : (o : Option ℕ) → isNone o ≡ true → o ≡ none
 is-none none e = refl
 is-none (some x) e = absurd (true≢false (sym e))
 

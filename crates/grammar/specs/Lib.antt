@@ -4,6 +4,7 @@ pub mod Complete
 pub mod Labels
 pub mod Pairs
 pub mod Faults
+pub mod Once
 pub mod Decimal
 pub mod Written
 pub mod Length

@@ -1,19 +1,19 @@
 -- The readers' steps over the bytes from a place on, by the byte that stands there.
 -- Main results: drop-byte, sign-there, sign-missing, longer-yes, label-zero, label-more, label-none, node-label, node-pair, node-deep.
-use mathlib.Core.Path.{_≡_, refl, ap, sym, subst, _∙_}
-use mathlib.Core.Bool.{Bool, true, false, cond, _&&_}
-use mathlib.Core.List.{List, [], _∷_, _++_}
+use mathlib.Core.Path.{_≡_, refl, ap, sym, subst}
+use mathlib.Core.Bool.{Bool, true, false, _&&_}
+use mathlib.Core.List.{List, [], _∷_}
 use Prim.Native.Nat.{ℕ, zero, suc, _+_, _-_, _*_, _≤_, _<_}
 use native.Mathlib.Omega.{arith}
 use native.Mathlib.Numerals.{add-one}
-use lib.Dec.{eqb, leb}
+use lib.Dec.{leb}
 use lib.ListN.{length, getD, drop, drop-of-length-le, List·getD-eq-default}
 use lib.Seq.{drop-cons}
 use borrow.Author.Tests.{leb-true, le-leb, lt-leb, eq-eqb, ne-eqb, ltb-true, ltb-false}
 use lib.Dec.{ltb}
 use Rattle.rules.specs.Newick.{isDigit}
-use Rattle.rules.specs.Tree.{Tree, leaf, node}
-use Rattle.grammar.specs.Reading.{Reading, read, broken, Reader, sign, moreDigits, labelRead, bracketOrLabel, nodeRead, pairRead}
+use Rattle.rules.specs.Tree.{Tree, leaf}
+use Rattle.grammar.specs.Reading.{read, broken, sign, moreDigits, labelRead, bracketOrLabel, nodeRead, pairRead}
 use Rattle.basics.specs.Bools.{and-both}
 use Rattle.grammar.specs.Complete.{NoDigit}
 
@@ -30,6 +30,18 @@ digit-from c h = rw (le-leb 48 c h)
 pub digit-below : (c : ℕ) → c < 48 → leb 48 c ≡ isDigit c
 unfolding isDigit
 digit-below c h = rw (lt-leb 48 c h)
+
+pub no-digit-above : (c : ℕ) → 57 < c → isDigit c ≡ false
+unfolding isDigit
+no-digit-above c h = rw (le-leb 48 c (omega arith), lt-leb c 57 h)
+
+pub no-digit-below : (c : ℕ) → c ≤ 48 → (c ≡ 48 → ⊥) → isDigit c ≡ false
+unfolding isDigit
+no-digit-below c h n = go (ltb c 48) refl
+  where
+    go : (b : Bool) → ltb c 48 ≡ b → leb 48 c && leb c 57 ≡ false
+    go true e = rw (lt-leb 48 c (ltb-true c 48 e))
+    go false e = absurd (n (let k = ltb-false c 48 e in omega arith))
 
 -- a byte that is not 0 stands before the end
 pub place-of : (s : List ℕ) (at c : ℕ) → 0 < c → getD s at 0 ≡ c → at < length s

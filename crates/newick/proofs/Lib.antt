@@ -1,6 +1,6 @@
 pub mod Bytes
 pub mod Numbers
+pub mod Steps
 pub mod Took
 pub mod Whole
-pub mod Marking
 pub mod Numbering

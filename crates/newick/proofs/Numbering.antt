@@ -1,11 +1,9 @@
 -- Children numbered pair by pair. Main definitions: mix. Main results: mix-next, map-at, mix-end, number-leaf, number-pair.
-use mathlib.Core.Path.{_≡_, refl, ap, ap₂, sym, subst, _∙_}
-use mathlib.Core.Bool.{Bool, true, false, cond}
+use mathlib.Core.Path.{_≡_, refl, ap, sym, _∙_}
 use mathlib.Core.List.{List, [], _∷_, _++_, map}
-use Prim.Native.Nat.{ℕ, zero, suc, _+_, _-_, _*_, _≤_, _<_}
+use Prim.Native.Nat.{ℕ, zero, suc, _+_, _-_, _≤_, _<_}
 use native.Mathlib.Omega.{arith}
 use native.Mathlib.Numerals.{add-one}
-use lib.Dec.{ltb}
 use lib.ListN.{length, getD, take, drop, set, length-take, length-drop, length-append, length-map}
 use lib.Seq.{drop-cons, take-suc, set-at, append-snoc, take-all, getD-take}
 use borrow.Author.Tests.{lt-ltb, le-ltb}
@@ -82,3 +80,7 @@ module _ {pairs : List ℕ} {n : ℕ} {before now′ : List ℕ} {k : ℕ} {f : 
 
   pub numbered-end : n ≤ k + 1 → now′ ≡ map f (take (n - 1) pairs) ++ drop (n - 1) before
   numbered-end h = m .done ∙ mix-end k (n - 1) (map f (take (n - 1) pairs)) before (omega (arith, m .within)) (map-take-length f pairs (n - 1) (m .pairs-there))
+
+-- the part of an array behind a place is all that stands there
+pub part-all : (m : List ℕ) (k : ℕ) → take (length m - k) (drop k m) ≡ drop k m
+part-all m k = take-all (length m - k) (drop k m) (omega (arith, length-drop k m))

@@ -1,42 +1,24 @@
--- A label read digit by digit. Main definitions: Digits. Main results: digits-one, digits-more, digits-stop, digits-full, whole-zero.
+-- A label read digit by digit. Main definitions: Digits. Main results: digits-one, digits-more, labelled-stop, labelled-full.
 use mathlib.Core.Path.{_≡_, ap, sym, _∙_}
 use mathlib.Core.Bool.{true, false}
 use mathlib.Core.List.{List}
-use Prim.Native.Nat.{ℕ, zero, suc, _+_, _-_, _*_, _/_, _%_, _≤_, _<_}
+use Prim.Native.Nat.{ℕ, suc, _+_, _-_, _*_, _≤_, _<_}
 use native.Mathlib.Omega.{arith}
 use lib.ListN.{length, getD, drop}
 use Rattle.rules.specs.Newick.{isDigit}
 use Rattle.rules.specs.Tree.{leaf}
 use Rattle.grammar.specs.Reading.{read, moreDigits, labelRead}
 use Rattle.grammar.specs.Complete.{no-more}
-use Rattle.newick.specs.Lent.{Same, Whole}
-use Rattle.newick.proofs.Bytes.{place-of, place-digit, no-digit, longer-yes, label-zero, label-more}
+use Rattle.newick.specs.Lent.{Same, leafIn, Labelled}
+use Rattle.newick.proofs.Bytes.{place-digit, no-digit, longer-yes, label-more}
 
 -- the first i digits of a label make x, and k more may follow
 pub record Digits (s : List ℕ) (at i k x : ℕ) : Type 0 where
   pub within : at + i ≤ length s
   pub reads : labelRead (drop at s) ≡ moreDigits k x (drop (at + i) s)
 
--- a label of i digits
-whole : {s : List ℕ} {at : ℕ} (i x : ℕ) → 1 ≤ i → x < 10000 → at + i ≤ length s → labelRead (drop at s) ≡ read (drop (at + i) s) (leaf x) → Whole s at (i * 16384 + x)
-whole {s} {at} i x one small within e =
-    let q : (i * 16384 + x) / 16384 ≡ i = omega arith in
-    let m : (i * 16384 + x) % 16384 ≡ x = omega arith in
-    record {
-      within = omega arith;
-      some-digit = omega arith;
-      small = omega arith;
-      reads = rw (q, m) e;
-    }
-
 module _ (signs s : List ℕ) (same : Same signs s) where
-  pub whole-zero : (at c : ℕ) → c ≡ getD signs at 0 → c ≡ 48 → Whole s at 16384
-  whole-zero at c e z =
-      let q : getD s at 0 ≡ 48 = sym (same at) ∙ sym e ∙ z in
-      let p : at < length s = place-of s at 48 (omega arith) q in
-      whole 1 0 (omega arith) (omega arith) (omega arith) (label-zero s at q)
-
-  pub digits-one : (at c x : ℕ) → c ≡ getD signs at 0 → isDigit (getD signs at 0) ≡ true → (c ≡ 48 → ⊥) → x ≡ 10 * 0 + (c - 48) → Digits s at 1 3 x
+  pub digits-one : (at c x : ℕ) → c ≡ getD signs at 0 → isDigit (getD signs at 0) ≡ true → (c ≡ 48 → ⊥) → x ≡ c - 48 → Digits s at 1 3 x
   digits-one at c x e h z v =
       let g : isDigit (getD s at 0) ≡ true = ap isDigit (sym (same at)) ∙ h in
       let p : at < length s = place-digit s at g in
@@ -57,11 +39,22 @@ module _ (signs s : List ℕ) (same : Same signs s) where
         reads = D .reads ∙ longer-yes s (at + i) x g k ∙ ap (λ (z : ℕ). moreDigits k z (drop (at + i + 1) s)) w ∙ ap (λ (z : ℕ). moreDigits k y (drop z s)) j;
       }
 
-  pub digits-stop : {at i k x : ℕ} (c : ℕ) → Digits s at i (suc k) x → 1 ≤ i → x < 10000 → c ≡ getD signs (at + i) 0 → isDigit c ≡ false → Whole s at (i * 16384 + x)
-  digits-stop {at} {i} {k} {x} c D one small e h =
+  -- a label ends where no digit follows
+  pub labelled-stop : {at i k x r : ℕ} {m m′ : List ℕ} (c : ℕ) → Digits s at i (suc k) x → 1 ≤ i → x < 10000 → c ≡ getD signs (at + i) 0 → isDigit c ≡ false
+      → (r ≡ at + i) × (m′ ≡ leafIn x m) → Labelled s at m m′ r
+  labelled-stop {at} {i} {k} {x} c D one small e h (p, q) =
       let g : isDigit (getD s (at + i) 0) ≡ false = ap isDigit (sym (e ∙ same (at + i))) ∙ h in
-      whole i x one small (D .within) (D .reads ∙ no-more (suc k) x (drop (at + i) s) (no-digit s (at + i) g))
+      record {
+        value = x;
+        small = small;
+        ahead = omega arith;
+        within = omega (arith, D .within);
+        reads = D .reads ∙ no-more (suc k) x (drop (at + i) s) (no-digit s (at + i) g) ∙ ap (λ (j : ℕ). read (drop j s) (leaf x)) (sym p);
+        there = q;
+      }
 
-pub digits-full : {s : List ℕ} {at x : ℕ} → Digits s at 4 0 x → x < 10000 → Whole s at (65536 + x)
+-- or with its fourth digit
+pub labelled-full : {s : List ℕ} {at x r : ℕ} {m m′ : List ℕ} → Digits s at 4 0 x → x < 10000 → (r ≡ at + 4) × (m′ ≡ leafIn x m) → Labelled s at m m′ r
 unfolding moreDigits
-digits-full {s} {at} {x} D small = whole 4 x (omega arith) small (D .within) (D .reads)
+labelled-full {s} {at} {x} D small (p, q) =
+    record { value = x; small = small; ahead = omega arith; within = omega (arith, D .within); reads = D .reads ∙ ap (λ (j : ℕ). read (drop j s) (leaf x)) (sym p); there = q }

@@ -1,84 +1,103 @@
--- A text read whole. Main definitions: Copied. Main results: no-end, not-alone, ended, text-broken, text-answers.
+-- A text read whole. Main definitions: Copied. Main results: ready-start, text-broken, text-longer, text-took.
 use mathlib.Core.Path.{_≡_, refl, ap, ap₂, sym, subst, _∙_}
-use mathlib.Core.List.{List, [], _∷_, _++_, append-nil, append-cancel-right, map}
-use mathlib.Core.Option.{none}
-use Prim.Native.Nat.{ℕ, _+_, _-_, _*_, _≤_, _<_}
+use mathlib.Core.List.{List, [], _∷_, _++_}
+use mathlib.Core.Logic.{inl, inr}
+use Prim.Native.Nat.{ℕ, _+_, _-_, _≤_, _<_}
 use native.Mathlib.Omega.{arith}
 use mathlib.Core.Bool.{Bool, true, false}
 use lib.Dec.{eqb, ltb}
 use lib.ListN.{length, getD, drop, set, length-drop, length-set, drop-of-length-le, List·getD-eq-default, replicate, length-replicate, getD-replicate}
-use lib.Seq.{sets, getD-set-same, getD-set-other}
+use lib.Seq.{getD-set-same, getD-set-other}
 use borrow.Author.Tests.{eqb-true, eqb-false, ltb-true, ltb-false}
-use Rattle.rules.specs.Newick.{levels, Placed, labelsFrom, labelsOf, Text, text, BreaksAt}
-use Rattle.rules.specs.Tree.{Tree}
-use Rattle.grammar.specs.Reading.{Reading, read, broken, seq, andThen, sign, nothing, nodeRead, textRead}
+use Rattle.rules.specs.Newick.{levels, Text, text, Node, BreaksAt}
+use Rattle.grammar.specs.Reading.{broken, seq, andThen, sign, nothing, nodeRead, textRead}
 use Rattle.grammar.specs.Sound.{Reads, Outcome, sound-node}
 use Rattle.grammar.specs.Complete.{breaks-at}
-use Rattle.grammar.specs.Labels.{end-labels}
-use Rattle.grammar.specs.Pairs.{pairCount}
-use Rattle.newick.specs.declared.Next.{Next}
-use Rattle.newick.specs.declared.Read.{Read}
-use Rattle.newick.specs.declared.Read.the-variants.{Node, Broken}
-use Rattle.newick.specs.Lent.{Same, Blank, Ready, Took, Broke, Ended, TextTook, TextAnswers, placed, children}
+use Rattle.newick.specs.Lent.{cell, Same, Blank, begun, brokenIn, Ready, Took, Answers, TextTook}
 use Rattle.newick.proofs.Bytes.{place-of, drop-byte, sign-there, sign-missing}
-
-module _ (signs s : List ℕ) (same : Same signs s) (a : Next) where
-  pub no-end : a .at ≤ length s → (getD signs (a .at) 0 ≡ 59 → ⊥) → Ended s a (Broken (a .at))
-  unfolding seq andThen
-  no-end w h = (w, λ t. rw (sign-missing 59 t s (a .at) (λ q. h (same (a .at) ∙ q))))
-
-  pub not-alone : getD signs (a .at) 0 ≡ 59 → a .at + 1 < length s → Ended s a (Broken (a .at + 1))
-  unfolding seq andThen nothing
-  not-alone e w = (omega arith, λ t. rw (sign-there 59 t s (a .at) (omega arith) (sym (same (a .at)) ∙ e), drop-byte s (a .at + 1) w))
-
-  pub ended : getD signs (a .at) 0 ≡ 59 → length s ≤ a .at + 1 → Ended s a (Node a)
-  unfolding seq andThen nothing
-  ended q w =
-      let e : getD s (a .at) 0 ≡ 59 = sym (same (a .at)) ∙ q in
-      let z : drop (a .at + 1) s ≡ [] = drop-of-length-le s w in (
-        refl,
-        (
-          (λ t. rw (sign-there 59 t s (a .at) (omega arith) e, z)),
-          drop-byte s (a .at) (place-of s (a .at) 59 (omega arith) e) ∙ ap₂ _∷_ e z,
-        ),
-      )
+use Rattle.newick.proofs.Took.{broken-cell, broken-before}
 
 place : (s : List ℕ) (k : ℕ) → k ≤ length s → textRead s ≡ broken (drop k s) → BreaksAt s k
 place s k w e =
     let q : length s - length (drop k s) ≡ k = omega (arith, length-drop k s) in
     subst (BreaksAt s) q (breaks-at s (drop k s) e)
 
--- a text breaks where its node does
-pub text-broken : (s : List ℕ) (r : ℕ) → ((k : ℕ) × (r ≡ 9223372036854775808 + k) × Broke (nodeRead levels) s 0 k) → BreaksAt s (r - 9223372036854775808)
-unfolding textRead seq andThen
-text-broken s r (k, q, b) =
-    let e : k ≡ r - 9223372036854775808 = omega arith in
-    subst (BreaksAt s) e (place s k (b .within) (rw (b .breaks)))
-
-pub text-answers : (signs s ls ps ls′ ps′ : List ℕ) (a : Next) (r : Read) → Took (nodeRead levels) signs s 0 0 0 ls ps ls′ ps′ a → Ended s a r → TextAnswers s ls ps ls′ ps′ r
-unfolding textRead seq andThen labelsOf
-text-answers signs s ls ps ls′ ps′ a (Broken k) t e = place s k (e .0) (rw (t .reads) (e .1 (t .tree)))
-text-answers signs s ls ps ls′ ps′ a (Node r) t e = go (subst (Outcome (nodeRead levels) (Rattle.rules.specs.Newick.Node levels) s) (t .reads) (sound-node levels s))
-  where
-    go : Reads (nodeRead levels) (Rattle.rules.specs.Newick.Node levels) s (drop (a .at) s) (t .tree) → TextTook s ls ps ls′ ps′ r
-    go h =
-        let same : h .bytes ≡ t .bytes = append-cancel-right (h .bytes) (t .bytes) (drop (a .at) s) (sym (h .split) ∙ t .split) in
-        let S : s ≡ t .bytes ++ (59 ∷ []) = t .split ∙ ap (λ (x : List ℕ). t .bytes ++ x) (e .1 .1) in
-        let L : labelsFrom 0 none (t .bytes) ≡ labelsOf s = sym (ap (labelsFrom 0 none) S ∙ end-labels 0 (t .bytes)) in
-        let n : a .labels ≡ length (labelsFrom 0 none (t .bytes)) = omega (arith, t .label-count) in
-        let p : a .pairs ≡ pairCount (t .tree) = omega (arith, t .pair-count) in
-        record {
-          tree = t .tree;
-          reads-as = subst (λ (x : List ℕ). Text x (t .tree)) (sym S) (text (subst (λ (x : List ℕ). Rattle.rules.specs.Newick.Node levels x (t .tree)) same (h .good)));
-          label-count = ap (λ (x : Next). x .labels) (e .0) ∙ n ∙ ap length L;
-          label-record = t .label-record ∙ ap (λ (x : List Placed). sets ls 0 (map placed x)) L;
-          pair-count = ap (λ (x : Next). x .pairs) (e .0) ∙ p;
-          pair-record = t .pair-record;
-        }
+begun-cells : (m : List ℕ) → length m ≡ 2576 → (length (begun m) ≡ 2576) × (cell (begun m) 4 ≡ 16384) × (cell (begun m) 8 ≡ 1024)
+begun-cells m h =
+    let l : length (set m 4 16384) ≡ 2576 = length-set m 4 16384 ∙ h in (
+      length-set (set m 4 16384) 8 1024 ∙ l,
+      getD-set-other (set m 4 16384) 8 4 1024 0 (λ q. omega arith) ∙ getD-set-same m 4 16384 0 (omega arith),
+      getD-set-same (set m 4 16384) 8 1024 0 (omega arith),
+    )
 
 -- where nothing is read yet
-pub ready-start : {signs s ls ps : List ℕ} → Same signs s → length s ≤ 6056 → length ls ≡ 1024 → length ps ≡ 1024 → Ready signs s 0 0 0 ls ps
-ready-start e h l p = record { same = e; short = h; within = omega arith; labels = omega arith; pairs = omega arith; label-room = l; pair-room = p }
+pub ready-start : {signs s : List ℕ} (m : List ℕ) → Same signs s → length s ≤ 6056 → length m ≡ 2576 → Ready signs s 0 (begun m)
+ready-start m e h l =
+    let c = begun-cells m l in
+    record { same = e; short = h; within = omega arith; room = c .0; low = omega (arith, c .1); pairs = omega (arith, c .1); some-depth = omega (arith, c .2); deep = omega (arith, c .2) }
+
+module _ {signs s m₁ : List ℕ} {x : ℕ} (m : List ℕ) (room : length m ≡ 2576) (y : Ready signs s 0 (begun m)) (A′ : Answers (nodeRead (cell (begun m) 8 - 1)) s 0 (begun m) m₁ x) where
+  A : Answers (nodeRead levels) s 0 (begun m) m₁ x
+  A = subst (λ (d : ℕ). Answers (nodeRead d) s 0 (begun m) m₁ x) (let c = begun-cells m room .2 in omega arith) A′
+
+  -- no sign at the end
+  pub text-broken : {m′ : List ℕ} → (getD signs x 0 ≡ 59 → ⊥) → m′ ≡ brokenIn x m₁ → BreaksAt s (cell m′ 12)
+  unfolding textRead seq andThen
+  text-broken {m′} h q = go A
+    where
+      go : Answers (nodeRead levels) s 0 (begun m) m₁ x → BreaksAt s (cell m′ 12)
+      go (inl t) =
+          let c : cell m′ 12 ≡ x = ap (λ (l : List ℕ). cell l 12) q ∙ broken-cell x m₁ (t .room) (omega (arith, t .within, y .short)) in
+          subst (BreaksAt s) (sym c) (place s x (t .within) (rw (t .reads, sign-missing 59 (t .tree) s x (λ e. h (y .same x ∙ e)))))
+      go (inr b) =
+          let c : cell m′ 12 ≡ cell m₁ 12 = ap (λ (l : List ℕ). cell l 12) (q ∙ broken-before x m₁ (b .off)) in
+          subst (BreaksAt s) (sym c) (place s (cell m₁ 12) (b .within) (rw (b .breaks)))
+
+  pub broken-small : {m′ : List ℕ} → m′ ≡ brokenIn x m₁ → cell m′ 12 ≤ 6056
+  broken-small {m′} q = go A
+    where
+      go : Answers (nodeRead levels) s 0 (begun m) m₁ x → cell m′ 12 ≤ 6056
+      go (inl t) = omega (arith, ap (λ (l : List ℕ). cell l 12) q ∙ broken-cell x m₁ (t .room) (omega (arith, t .within, y .short)), t .within, y .short)
+      go (inr b) = omega (arith, ap (λ (l : List ℕ). cell l 12) (q ∙ broken-before x m₁ (b .off)), b .within, y .short)
+
+  module _ (end′ : getD signs x 0 ≡ 59) where
+    took : Took (nodeRead levels) s 0 (begun m) m₁ x
+    took = go A
+      where
+        go : Answers (nodeRead levels) s 0 (begun m) m₁ x → Took (nodeRead levels) s 0 (begun m) m₁ x
+        go (inl t) = t
+        go (inr b) = absurd (let z : getD signs x 0 ≡ 0 = y .same x ∙ List·getD-eq-default s 0 (omega (arith, b .off, y .short)) in omega arith)
+
+    end : getD s x 0 ≡ 59
+    end = sym (y .same x) ∙ end′
+
+    pub end-place : (x < length s) × (length m₁ ≡ 2576) × (16384 ≤ cell m₁ 4) × (cell m₁ 4 ≤ 17900)
+    end-place =
+        let t = took in
+        let c = begun-cells m room in
+        (place-of s x 59 (omega arith) end, t .room, omega (arith, t .next, c .1), omega (arith, t .next, c .1, t .ahead, t .within, y .short))
+
+    -- something behind it
+    pub text-longer : x + 1 < length s → BreaksAt s (x + 1)
+    unfolding textRead seq andThen nothing
+    text-longer w = place s (x + 1) (omega arith) (rw (took .reads, sign-there 59 (took .tree) s x (omega arith) end, drop-byte s (x + 1) w))
+
+    -- nothing behind it
+    pub text-took : {n : ℕ} → length s ≤ x + 1 → n ≡ cell m₁ 4 - 16384 + 1 → TextTook s m m₁ n
+    text-took {n} w e = go (subst (Outcome (nodeRead levels) (Node levels) s) (took .reads) (sound-node levels s))
+      where
+        rest : drop x s ≡ 59 ∷ []
+        rest = drop-byte s x (end-place .0) ∙ ap₂ _∷_ end (drop-of-length-le s w)
+
+        go : Reads (nodeRead levels) (Node levels) s (drop x s) (took .tree) → TextTook s m m₁ n
+        go h =
+            let S : s ≡ h .bytes ++ (59 ∷ []) = h .split ∙ ap (λ (r : List ℕ). h .bytes ++ r) rest in
+            record {
+              tree = took .tree;
+              reads-as = subst (λ (r : List ℕ). Text r (took .tree)) (sym S) (text (h .good));
+              leaves = omega (arith, took .next, begun-cells m room .1);
+              there = took .there;
+            }
 
 -- the first i bytes of a text are copied in front of zeros
 pub record Copied (s signs : List ℕ) (i : ℕ) : Type 0 where

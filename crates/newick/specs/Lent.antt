@@ -1,29 +1,18 @@
--- What the readers of a Newick text take and leave: the bytes passed, and the labels and pairs recorded.
--- Main definitions: Same, Ready, Whole, Took, Broke, Answers, TextTook, TextAnswers.
+-- What the readers of a Newick text take and leave: the bytes passed, and the array that what is read goes to.
+-- Main definitions: Same, recorded, Ready, Labelled, Took, Broke, Answers, TextTook, TextAnswers.
 use mathlib.Core.Path.{_≡_}
-use mathlib.Core.List.{List, [], _∷_, map, _++_}
-use mathlib.Core.Option.{none}
-use mathlib.Core.Logic.{_⊎_}
-use Prim.Native.Nat.{ℕ, _+_, _*_, _/_, _%_, _≤_, _<_}
 use mathlib.Core.Bool.{cond}
-use lib.Dec.{eqb}
+use mathlib.Core.List.{List}
+use mathlib.Core.Logic.{_⊎_}
+use Prim.Native.Nat.{ℕ, _+_, _-_, _*_, _≤_, _<_}
+use lib.Dec.{eqb, ltb}
 use lib.ListN.{length, drop, getD, set}
-use lib.Seq.{sets}
-use Rattle.rules.specs.Newick.{Placed, labelsFrom, labelsOf, Text, BreaksAt}
-use Rattle.rules.specs.Tree.{Tree, leaf}
-use Rattle.grammar.specs.Reading.{Reader, read, broken, labelRead, seq, sign, nothing}
-use Rattle.grammar.specs.Pairs.{pairCount, childCode, pairsFrom}
-use Rattle.newick.specs.declared.Next.{Next}
+use Rattle.rules.specs.Newick.{Text, BreaksAt}
+use Rattle.rules.specs.Tree.{Tree, leaf, node}
+use Rattle.grammar.specs.Reading.{Reader, read, broken, labelRead}
+use Rattle.grammar.specs.Pairs.{pairCount}
 use Rattle.newick.specs.declared.Read.{Read}
-use Rattle.newick.specs.declared.Read.the-variants.{Node, Broken}
-
--- a label with its place in one number; labels are below 16,384
-abbrev pub placed : Placed → ℕ
-placed l = l .0 * 16384 + l .1
-
--- a pair's two children in one number
-abbrev pub children : ℕ × ℕ → ℕ
-children c = c .0 * 65536 + c .1
+use Rattle.newick.specs.declared.Read.the-variants.{Leaves, Broken}
 
 -- the bytes of a text, with zeros behind them
 abbrev pub Same : List ℕ → List ℕ → Type 0
@@ -32,84 +21,96 @@ Same signs s = (k : ℕ) → getD signs k 0 ≡ getD s k 0
 abbrev pub Blank : List ℕ → Type 0
 Blank signs = (k : ℕ) → getD signs k 0 ≡ 0
 
--- where a reader may begin: no more labels or pairs are recorded than bytes are passed
-pub record Ready (signs s : List ℕ) (at n p : ℕ) (ls ps : List ℕ) : Type 0 where
+-- The cells of the array m: 0 has the node that was read last, 4 the pair that closes next, 8 how many brackets may still open and one,
+-- 12 where the bytes break off; the marks of the labels stand from 16 on, the pairs from 1040 on.
+abbrev pub cell : List ℕ → ℕ → ℕ
+cell m i = getD m i 0
+
+-- a label is read: it is the last node, and marked where it is below 1,024
+unfoldable pub leafIn : ℕ → List ℕ → List ℕ
+leafIn x m = cond (ltb x 1024) (set (set m 0 x) (16 + x) 1) (set m 0 x)
+
+-- one bracket more is open
+unfoldable pub opened : List ℕ → List ℕ
+opened m = set m 8 (cell m 8 - 1)
+
+-- a pair of a first child and the last node is closed, and is the last node
+unfoldable pub pairIn : ℕ → List ℕ → List ℕ
+pairIn first m = set (set (set m (1040 + (cell m 4 - 16384)) (first * 65536 + cell m 0)) 0 (cell m 4)) 4 (cell m 4 + 1)
+
+unfoldable pub closed : List ℕ → List ℕ
+closed m = set m 8 (cell m 8 + 1)
+
+-- the array once a tree is read
+unfoldable pub recorded : Tree → List ℕ → List ℕ
+unfolding leafIn opened pairIn closed
+recorded (leaf x) m = leafIn x m
+recorded (node l r) m = closed (pairIn (cell (recorded l (opened m)) 0) (recorded r (recorded l (opened m))))
+
+-- the array once the bytes break off at a place; 6,143 says that they broke off before
+unfoldable pub brokenIn : ℕ → List ℕ → List ℕ
+brokenIn at m = cond (eqb at 6143) m (set m 12 at)
+
+-- where a reader may begin: no more pairs are recorded than a fourth of the bytes passed
+pub record Ready (signs s : List ℕ) (at : ℕ) (m : List ℕ) : Type 0 where
   pub same : Same signs s
   pub short : length s ≤ 6056
   pub within : at ≤ length s
-  pub labels : n ≤ at
-  pub pairs : 3 * p ≤ at
-  pub label-room : length ls ≡ 1024
-  pub pair-room : length ps ≡ 1024
+  pub room : length m ≡ 2576
+  pub low : 16384 ≤ cell m 4
+  pub pairs : 4 * (cell m 4 - 16384) ≤ at
+  pub some-depth : 1 ≤ cell m 8
+  pub deep : cell m 8 ≤ 1024
 
--- a label, read whole: its length and its value
-pub record Whole (s : List ℕ) (at l : ℕ) : Type 0 where
-  pub within : at + l / 16384 ≤ length s
-  pub some-digit : 1 ≤ l / 16384
-  pub small : l % 16384 < 10000
-  pub reads : labelRead (drop at s) ≡ read (drop (at + l / 16384) s) (leaf (l % 16384))
+-- a label is read
+pub record Labelled (s : List ℕ) (at : ℕ) (m m′ : List ℕ) (r : ℕ) : Type 0 where
+  pub value : ℕ
+  pub small : value < 10000
+  pub ahead : at < r
+  pub within : r ≤ length s
+  pub reads : labelRead (drop at s) ≡ read (drop r s) (leaf value)
+  pub there : m′ ≡ leafIn value m
 
--- a tree is read, and its labels and its pairs are recorded behind those before
-pub record Took (f : Reader) (signs s : List ℕ) (at n p : ℕ) (ls ps ls′ ps′ : List ℕ) (r : Next) : Type 0 where
-  pub bytes : List ℕ
+-- a tree is read, and recorded
+pub record Took (f : Reader) (s : List ℕ) (at : ℕ) (m m′ : List ℕ) (r : ℕ) : Type 0 where
   pub tree : Tree
-  pub split : drop at s ≡ bytes ++ drop (r .at) s
-  pub ahead : r .at ≡ at + length bytes
-  pub room : 3 * pairCount tree < length bytes
-  pub reads : f (drop at s) ≡ read (drop (r .at) s) tree
-  pub ready : Ready signs s (r .at) (r .labels) (r .pairs) ls′ ps′
-  pub label-count : r .labels ≡ n + length (labelsFrom at none bytes)
-  pub label-record : ls′ ≡ sets ls n (map placed (labelsFrom at none bytes))
-  pub pair-count : r .pairs ≡ p + pairCount tree
-  pub pair-record : ps′ ≡ sets ps p (map children (pairsFrom p tree))
-  pub child : r .child ≡ childCode p tree
-  pub child-bound : r .child ≤ 16384 + r .pairs
+  pub reads : f (drop at s) ≡ read (drop r s) tree
+  pub ahead : at + 4 * pairCount tree + 1 ≤ r
+  pub within : r ≤ length s
+  pub there : m′ ≡ recorded tree m
+  pub room : length m′ ≡ 2576
+  pub child : cell m′ 0 < 32768
+  pub next : cell m′ 4 ≡ cell m 4 + pairCount tree
+  pub depth : cell m′ 8 ≡ cell m 8
 
--- the bytes break off at a place
-pub record Broke (f : Reader) (s : List ℕ) (at place : ℕ) : Type 0 where
-  pub within : place ≤ length s
-  pub breaks : f (drop at s) ≡ broken (drop place s)
+-- the bytes break off
+pub record Broke (f : Reader) (s : List ℕ) (at : ℕ) (m′ : List ℕ) (r : ℕ) : Type 0 where
+  pub off : r ≡ 6143
+  pub within : cell m′ 12 ≤ length s
+  pub breaks : f (drop at s) ≡ broken (drop (cell m′ 12) s)
 
--- what an answer says of the pair that was recorded last
-abbrev pub lastPair : ℕ → Next
-lastPair r = record { at = r % 4294967296; labels = r / 281474976710656; pairs = r / 4294967296 % 65536; child = 16383 + r / 4294967296 % 65536 }
+-- what the readers answer
+abbrev pub Answers : Reader → List ℕ → ℕ → List ℕ → List ℕ → ℕ → Type 0
+Answers f s at m m′ r = Took f s at m m′ r ⊎ Broke f s at m′ r
 
--- what the readers of nodes and pairs answer: where a node ends and what is recorded by then, or where the bytes break off
-abbrev pub Answers : Reader → List ℕ → List ℕ → ℕ → ℕ → ℕ → List ℕ → List ℕ → List ℕ → List ℕ → ℕ → Type 0
-Answers f signs s at n p ls ps ls′ ps′ r =
-    ((r < 9223372036854775808) × Took f signs s at n p ls ps ls′ ps′ (lastPair r)) ⊎ ((k : ℕ) × (r ≡ 9223372036854775808 + k) × Broke f s at k)
+-- what closing a pair asks
+pub record Closing (first : ℕ) (m : List ℕ) : Type 0 where
+  pub first-child : first < 32768
+  pub second-child : cell m 0 < 32768
+  pub low : 16384 ≤ cell m 4
+  pub few : cell m 4 ≤ 17900
 
--- what closing a pair asks of its two nodes
-pub record Closing (a b : Next) (ps : List ℕ) : Type 0 where
-  pub place : b .at ≤ 6056
-  pub labels : b .labels ≤ 6056
-  pub pairs : b .pairs ≤ 6056
-  pub first : a .child < 65536
-  pub second : b .child < 65536
-  pub room : length ps ≡ 1024
+-- the array before a text is read
+abbrev pub begun : List ℕ → List ℕ
+begun m = set (set m 4 16384) 8 1024
 
--- the bracket that closes a pair of two nodes, and the pair recorded
-unfoldable pub closed : List ℕ → Next → Next → List ℕ → ℕ × List ℕ
-closed signs a b ps =
-    cond (eqb (getD signs (b .at) 0) 41)
-    ((b .labels * 65536 + (b .pairs + 1)) * 4294967296 + (b .at + 1), set ps (b .pairs) (children (a .child, b .child)))
-    (9223372036854775808 + b .at, ps)
-
--- the sign at the end of a text, behind a tree, and nothing behind it
-abbrev pub Ended : List ℕ → Next → Read → Type 0
-Ended s a (Node r) =
-    (r ≡ a) × (((t : Tree) → seq (sign 59 t) nothing (drop (a .at) s) ≡ read [] t) × (drop (a .at) s ≡ 59 ∷ []))
-Ended s a (Broken k) = (k ≤ length s) × ((t : Tree) → seq (sign 59 t) nothing (drop (a .at) s) ≡ broken (drop k s))
-
--- a text is read, and its labels and its pairs are recorded from the start on
-pub record TextTook (s labels pairs labels′ pairs′ : List ℕ) (r : Next) : Type 0 where
+-- a text of n leaves is read
+pub record TextTook (s m m′ : List ℕ) (n : ℕ) : Type 0 where
   pub tree : Tree
   pub reads-as : Text s tree
-  pub label-count : r .labels ≡ length (labelsOf s)
-  pub label-record : labels′ ≡ sets labels 0 (map placed (labelsOf s))
-  pub pair-count : r .pairs ≡ pairCount tree
-  pub pair-record : pairs′ ≡ sets pairs 0 (map children (pairsFrom 0 tree))
+  pub leaves : n ≡ pairCount tree + 1
+  pub there : m′ ≡ recorded tree (begun m)
 
-abbrev pub TextAnswers : List ℕ → List ℕ → List ℕ → List ℕ → List ℕ → Read → Type 0
-TextAnswers s labels pairs labels′ pairs′ (Node r) = TextTook s labels pairs labels′ pairs′ r
-TextAnswers s labels pairs labels′ pairs′ (Broken place) = BreaksAt s place
+abbrev pub TextAnswers : List ℕ → List ℕ → List ℕ → Read → Type 0
+TextAnswers s m m′ (Leaves n) = TextTook s m m′ n
+TextAnswers s m m′ (Broken k) = BreaksAt s k

@@ -1,38 +1,246 @@
--- What a text that is read leaves in the records: its labels with their places, and an accepted table of its tree.
--- Main results: labels-recorded, leaves-recorded, table-recorded.
+-- What a tree that is read leaves in the array: its pairs, which are an accepted table of it, and the marks of its leaves.
+-- Main definitions: recordedRows, TableOf. Main results: kept-cells, pairs-there, marks-there, table-recorded.
 use mathlib.Core.Path.{_≡_, refl, ap, ap₂, sym, subst, _∙_}
-use mathlib.Core.List.{List, [], _∷_, _++_, map}
+use mathlib.Core.Bool.{Bool, true, false, cond, _||_}
+use mathlib.Core.List.{List, [], _∷_, _++_, map, append-assoc}
 use mathlib.Core.Option.{none}
-use Prim.Native.Nat.{ℕ, zero, suc, _+_, _-_, _*_, _/_, _%_, _≤_, _<_}
+use Prim.Native.Nat.{ℕ, _+_, _-_, _*_, _/_, _%_, _≤_, _<_}
 use native.Mathlib.Omega.{arith}
-use lib.ListN.{length, take, drop, length-map}
-use lib.Seq.{sets, sets-eq, take-at}
-use Rattle.rules.specs.Newick.{Placed, Text, labelsOf, labelFault}
-use Rattle.rules.specs.Tree.{Tree, LeavesBelow}
+use lib.Dec.{eqb, ltb}
+use lib.ListN.{length, set, take, drop, length-map, length-append, length-set}
+use lib.Seq.{sets, sets-eq, take-at, drop-set-lt, drop-set-add, getD-set-same, getD-set-other}
+use borrow.Author.Tests.{eqb-true, eqb-false, ltb-true, ltb-false}
+use Rattle.rules.specs.Tree.{Tree, leaf, node, has, LeavesBelow}
 use Rattle.rules.specs.Table.{Row, tableFault, tableTree}
-use Rattle.grammar.specs.Labels.{value, text-label-count}
-use Rattle.grammar.specs.Faults.{no-fault-leaves}
-use Rattle.grammar.specs.Pairs.{pairCount, pairsFrom, pairs-length, size-pairs}
+use Rattle.grammar.specs.Labels.{map-append}
+use Rattle.grammar.specs.Stores.{sets-append}
+use Rattle.grammar.specs.Pairs.{pairCount, childCode, pairsFrom, pairs-length, size-pairs}
 use Rattle.table_laws.specs.Tied.{tied}
 use Rattle.grammar.specs.Closed.{childNumber, closedRows, closed-length, closed-accepted, closed-tree, leaves-small}
-use Rattle.grammar.specs.Bounds.{AllBelow, SecondsBelow, text-small, pairs-small}
-use Rattle.newick.specs.declared.Next.{Next}
-use Rattle.newick.specs.Lent.{placed, children, TextTook}
-use Rattle.newick.specs.Marks.{unplaced}
+use Rattle.grammar.specs.Bounds.{SecondsBelow, pairs-small}
+use Rattle.clades.specs.Size.{size-below}
+use Rattle.newick.specs.Lent.{cell, leafIn, opened, pairIn, closed, recorded}
 use Rattle.newick.specs.Numbered.{firstNumber, secondNumber}
+
+-- a pair's two children in one number
+abbrev pub children : ℕ × ℕ → ℕ
+children c = c .0 * 65536 + c .1
+
+-- where every store of a tree's reader stands: a cell, a mark, or a pair
+module _ (m : List ℕ) where
+  opened-other : (i : ℕ) → (i ≡ 8 → ⊥) → cell (opened m) i ≡ cell m i
+  unfolding opened
+  opened-other i h = getD-set-other m 8 i (cell m 8 - 1) 0 h
+
+  opened-length : length (opened m) ≡ length m
+  unfolding opened
+  opened-length = length-set m 8 (cell m 8 - 1)
+
+  opened-pairs : drop 1040 (opened m) ≡ drop 1040 m
+  unfolding opened
+  opened-pairs = drop-set-lt 1040 m 8 (cell m 8 - 1) (omega arith)
+
+  shut-other : (i : ℕ) → (i ≡ 8 → ⊥) → cell (closed m) i ≡ cell m i
+  unfolding closed
+  shut-other i h = getD-set-other m 8 i (cell m 8 + 1) 0 h
+
+  shut-length : length (closed m) ≡ length m
+  unfolding closed
+  shut-length = length-set m 8 (cell m 8 + 1)
+
+  shut-pairs : drop 1040 (closed m) ≡ drop 1040 m
+  unfolding closed
+  shut-pairs = drop-set-lt 1040 m 8 (cell m 8 + 1) (omega arith)
+
+  module _ (a : ℕ) where
+    pair-length : length (pairIn a m) ≡ length m
+    unfolding pairIn
+    pair-length = simp length-set
+
+    pair-mark : (i : ℕ) → 16 ≤ i → i < 1040 → cell (pairIn a m) i ≡ cell m i
+    unfolding pairIn
+    pair-mark i h g =
+        getD-set-other (set (set m (1040 + (cell m 4 - 16384)) (a * 65536 + cell m 0)) 0 (cell m 4)) 4 i (cell m 4 + 1) 0 (λ q. omega arith)
+        ∙ getD-set-other (set m (1040 + (cell m 4 - 16384)) (a * 65536 + cell m 0)) 0 i (cell m 4) 0 (λ q. omega arith)
+        ∙ getD-set-other m (1040 + (cell m 4 - 16384)) i (a * 65536 + cell m 0) 0 (λ q. omega arith)
+
+    pair-pairs : drop 1040 (pairIn a m) ≡ set (drop 1040 m) (cell m 4 - 16384) (a * 65536 + cell m 0)
+    unfolding pairIn
+    pair-pairs =
+        drop-set-lt 1040 (set (set m (1040 + (cell m 4 - 16384)) (a * 65536 + cell m 0)) 0 (cell m 4)) 4 (cell m 4 + 1) (omega arith)
+        ∙ drop-set-lt 1040 (set m (1040 + (cell m 4 - 16384)) (a * 65536 + cell m 0)) 0 (cell m 4) (omega arith)
+        ∙ drop-set-add 1040 m (cell m 4 - 16384) (a * 65536 + cell m 0)
+
+    pair-cells : 4 < length m → (cell (pairIn a m) 0 ≡ cell m 4) × (cell (pairIn a m) 4 ≡ cell m 4 + 1)
+    unfolding pairIn
+    pair-cells h = (
+      getD-set-other (set (set m (1040 + (cell m 4 - 16384)) (a * 65536 + cell m 0)) 0 (cell m 4)) 4 0 (cell m 4 + 1) 0 (λ q. omega arith)
+          ∙ getD-set-same (set m (1040 + (cell m 4 - 16384)) (a * 65536 + cell m 0)) 0 (cell m 4) 0 (omega (arith, length-set m (1040 + (cell m 4 - 16384)) (a * 65536 + cell m 0))),
+      getD-set-same (set (set m (1040 + (cell m 4 - 16384)) (a * 65536 + cell m 0)) 0 (cell m 4)) 4 (cell m 4 + 1) 0
+          (omega (arith, length-set (set m (1040 + (cell m 4 - 16384)) (a * 65536 + cell m 0)) 0 (cell m 4), length-set m (1040 + (cell m 4 - 16384)) (a * 65536 + cell m 0))),
+    )
+
+  module _ (x : ℕ) where
+    leaf-length : length (leafIn x m) ≡ length m
+    unfolding leafIn
+    leaf-length = go (ltb x 1024)
+      where
+        go : (b : Bool) → length (cond b (set (set m 0 x) (16 + x) 1) (set m 0 x)) ≡ length m
+        go true = length-set (set m 0 x) (16 + x) 1 ∙ length-set m 0 x
+        go false = length-set m 0 x
+
+    leaf-pairs : drop 1040 (leafIn x m) ≡ drop 1040 m
+    unfolding leafIn
+    leaf-pairs = go (ltb x 1024) refl
+      where
+        go : (b : Bool) → ltb x 1024 ≡ b → drop 1040 (cond b (set (set m 0 x) (16 + x) 1) (set m 0 x)) ≡ drop 1040 m
+        go true e = let l = ltb-true x 1024 e in drop-set-lt 1040 (set m 0 x) (16 + x) 1 (omega arith) ∙ drop-set-lt 1040 m 0 x (omega arith)
+        go false e = drop-set-lt 1040 m 0 x (omega arith)
+
+    leaf-cells : 4 < length m → (cell (leafIn x m) 0 ≡ x) × (cell (leafIn x m) 4 ≡ cell m 4)
+    unfolding leafIn
+    leaf-cells h = go (ltb x 1024)
+      where
+        go : (b : Bool) → (cell (cond b (set (set m 0 x) (16 + x) 1) (set m 0 x)) 0 ≡ x) × (cell (cond b (set (set m 0 x) (16 + x) 1) (set m 0 x)) 4 ≡ cell m 4)
+        go true = (
+          getD-set-other (set m 0 x) (16 + x) 0 1 0 (λ q. omega arith) ∙ getD-set-same m 0 x 0 (omega arith),
+          getD-set-other (set m 0 x) (16 + x) 4 1 0 (λ q. omega arith) ∙ getD-set-other m 0 4 x 0 (λ q. omega arith),
+        )
+        go false = (getD-set-same m 0 x 0 (omega arith), getD-set-other m 0 4 x 0 (λ q. omega arith))
+
+    leaf-mark : length m ≡ 2576 → (y : ℕ) → y < 1024 → cell (leafIn x m) (16 + y) ≡ cond (eqb x y) 1 (cell m (16 + y))
+    unfolding leafIn
+    leaf-mark r y l = go (eqb x y) refl (ltb x 1024) refl
+      where
+        go : (c : Bool) → eqb x y ≡ c → (b : Bool) → ltb x 1024 ≡ b → cell (cond b (set (set m 0 x) (16 + x) 1) (set m 0 x)) (16 + y) ≡ cond c 1 (cell m (16 + y))
+        go true q true e =
+            let z : x ≡ y = eqb-true x y q in
+            rw z (getD-set-same (set m 0 y) (16 + y) 1 0 (omega (arith, length-set m 0 y)))
+        go true q false e = absurd (let z : x ≡ y = eqb-true x y q in let k = ltb-false x 1024 e in omega arith)
+        go false q true e =
+            let z = eqb-false x y q in
+            getD-set-other (set m 0 x) (16 + x) (16 + y) 1 0 (λ p. z (omega arith)) ∙ getD-set-other m 0 (16 + y) x 0 (λ p. omega arith)
+        go false q false e = getD-set-other m 0 (16 + y) x 0 (λ p. omega arith)
+
+-- the length, the last node and the next pair
+pub record Kept (t : Tree) (m : List ℕ) : Type 0 where
+  pub long : length (recorded t m) ≡ length m
+  pub last : cell (recorded t m) 0 ≡ childCode (cell m 4 - 16384) t
+  pub next : cell (recorded t m) 4 ≡ cell m 4 + pairCount t
+
+pub kept-cells : (t : Tree) (m : List ℕ) → 4 < length m → 16384 ≤ cell m 4 → Kept t m
+unfolding recorded childCode pairCount
+kept-cells (leaf x) m h low =
+    let c = leaf-cells m x h in
+    record { long = leaf-length m x; last = c .0; next = omega (arith, c .1) }
+kept-cells (node l r) m h low = go (kept-cells l (opened m) (omega (arith, opened-length m)) (omega (arith, opened-other m 4 (λ q. omega arith))))
+    (λ h′ low′. kept-cells r (recorded l (opened m)) h′ low′)
+  where
+    go : Kept l (opened m) → (4 < length (recorded l (opened m)) → 16384 ≤ cell (recorded l (opened m)) 4 → Kept r (recorded l (opened m))) → Kept (node l r) m
+    go L f =
+        let o = opened-other m 4 (λ q. omega arith) in
+        let R = f (omega (arith, L .long, opened-length m)) (omega (arith, L .next, o)) in
+        let m₂ = recorded r (recorded l (opened m)) in
+        let a = cell (recorded l (opened m)) 0 in
+        let c = pair-cells m₂ a (omega (arith, R .long, L .long, opened-length m)) in
+        record {
+          long = shut-length (pairIn a m₂) ∙ pair-length m₂ a ∙ R .long ∙ L .long ∙ opened-length m;
+          last = shut-other (pairIn a m₂) 0 (λ q. omega arith) ∙ c .0 ∙ omega (arith, R .next, L .next, o);
+          next = shut-other (pairIn a m₂) 4 (λ q. omega arith) ∙ c .1 ∙ omega (arith, R .next, L .next, o);
+        }
+
+-- the pairs stand behind those before
+pub pairs-there : (t : Tree) (m : List ℕ) → 4 < length m → 16384 ≤ cell m 4
+    → drop 1040 (recorded t m) ≡ sets (drop 1040 m) (cell m 4 - 16384) (map children (pairsFrom (cell m 4 - 16384) t))
+unfolding recorded pairsFrom
+pairs-there (leaf x) m h low = leaf-pairs m x
+pairs-there (node l r) m h low = go (pairs-there l (opened m) h₁ low₁) (pairs-there r (recorded l (opened m)) h₂ low₂)
+  where
+    o : cell (opened m) 4 ≡ cell m 4
+    o = opened-other m 4 (λ q. omega arith)
+
+    h₁ : 4 < length (opened m)
+    h₁ = omega (arith, opened-length m)
+
+    low₁ : 16384 ≤ cell (opened m) 4
+    low₁ = omega (arith, o)
+
+    L : Kept l (opened m)
+    L = kept-cells l (opened m) h₁ low₁
+
+    h₂ : 4 < length (recorded l (opened m))
+    h₂ = omega (arith, L .long, h₁)
+
+    low₂ : 16384 ≤ cell (recorded l (opened m)) 4
+    low₂ = omega (arith, L .next, low₁)
+
+    R : Kept r (recorded l (opened m))
+    R = kept-cells r (recorded l (opened m)) h₂ low₂
+
+    p : ℕ
+    p = cell m 4 - 16384
+
+    go : drop 1040 (recorded l (opened m)) ≡ sets (drop 1040 (opened m)) (cell (opened m) 4 - 16384) (map children (pairsFrom (cell (opened m) 4 - 16384) l))
+        → drop 1040 (recorded r (recorded l (opened m)))
+        ≡ sets (drop 1040 (recorded l (opened m))) (cell (recorded l (opened m)) 4 - 16384) (map children (pairsFrom (cell (recorded l (opened m)) 4 - 16384) r))
+        → drop 1040 (closed (pairIn (cell (recorded l (opened m)) 0) (recorded r (recorded l (opened m)))))
+        ≡ sets (drop 1040 m) (cell m 4 - 16384)
+        (map children (pairsFrom (cell m 4 - 16384) l ++ (pairsFrom (cell m 4 - 16384 + pairCount l) r ++ ((childCode (cell m 4 - 16384) l, childCode (cell m 4 - 16384 + pairCount l) r) ∷ []))))
+    go el er =
+        let D = drop 1040 m in
+        let q = cell m 4 - 16384 in
+        let m₂ = recorded r (recorded l (opened m)) in
+        let a = cell (recorded l (opened m)) 0 in
+        let P = map children (pairsFrom q l) in
+        let Q = map children (pairsFrom (q + pairCount l) r) in
+        let c : ℕ × ℕ = (childCode q l, childCode (q + pairCount l) r) in
+        let i : cell (opened m) 4 - 16384 ≡ q = omega (arith, o) in
+        let j : cell (recorded l (opened m)) 4 - 16384 ≡ q + pairCount l = omega (arith, L .next, o, low) in
+        let k : cell m₂ 4 - 16384 ≡ q + pairCount l + pairCount r = omega (arith, R .next, L .next, o, low) in
+        let lp : length P ≡ pairCount l = length-map (pairsFrom q l) children ∙ pairs-length q l in
+        let lq : length Q ≡ pairCount r = length-map (pairsFrom (q + pairCount l) r) children ∙ pairs-length (q + pairCount l) r in
+        let first : a ≡ childCode q l = L .last ∙ ap (λ (z : ℕ). childCode z l) i in
+        let second : cell m₂ 0 ≡ childCode (q + pairCount l) r = R .last ∙ ap (λ (z : ℕ). childCode z r) j in
+        let one : drop 1040 (recorded l (opened m)) ≡ sets D q P = el ∙ ap₂ (λ (d : List ℕ) (z : ℕ). sets d z (map children (pairsFrom z l))) (opened-pairs m) i in
+        let two : drop 1040 m₂ ≡ sets (sets D q P) (q + pairCount l) Q = er ∙ ap₂ (λ (d : List ℕ) (z : ℕ). sets d z (map children (pairsFrom z r))) one j in
+        let both : drop 1040 m₂ ≡ sets D q (P ++ Q) = two ∙ ap (λ (z : ℕ). sets (sets D q P) z Q) (omega (arith, lp)) ∙ sym (sets-append D q P Q) in
+        let last : set (drop 1040 m₂) (cell m₂ 4 - 16384) (a * 65536 + cell m₂ 0) ≡ sets (sets D q (P ++ Q)) (q + length (P ++ Q)) (children c ∷ []) =
+        ap₂ (λ (d : List ℕ) (z : ℕ). set d z (a * 65536 + cell m₂ 0)) both (k ∙ omega (arith, length-append P Q, lp, lq))
+        ∙ ap₂ (λ (x y : ℕ). set (sets D q (P ++ Q)) (q + length (P ++ Q)) (x * 65536 + y)) first second in
+        shut-pairs (pairIn a m₂) ∙ pair-pairs m₂ a ∙ last ∙ sym (sets-append D q (P ++ Q) (children c ∷ []))
+        ∙ ap (sets D q) (append-assoc P Q (children c ∷ [])
+        ∙ sym (map-append children (pairsFrom q l) (pairsFrom (q + pairCount l) r ++ (c ∷ [])) ∙ ap (λ (x : List ℕ). P ++ x) (map-append children (pairsFrom (q + pairCount l) r) (c ∷ []))))
+
+-- each leaf of the tree has its mark
+pub marks-there : (t : Tree) (m : List ℕ) → length m ≡ 2576 → 16384 ≤ cell m 4 → (y : ℕ) → y < 1024 → cell (recorded t m) (16 + y) ≡ cond (has t y) 1 (cell m (16 + y))
+unfolding recorded has
+marks-there (leaf x) m h low y g = leaf-mark m x h y g
+marks-there (node l r) m h low y g = go (marks-there l (opened m) (opened-length m ∙ h) (omega (arith, o)) y g) (marks-there r (recorded l (opened m)) (L .long ∙ opened-length m ∙ h) (omega (arith, L .next, o)) y g)
+  where
+    o : cell (opened m) 4 ≡ cell m 4
+    o = opened-other m 4 (λ q. omega arith)
+
+    L : Kept l (opened m)
+    L = kept-cells l (opened m) (omega (arith, opened-length m)) (omega (arith, o))
+
+    either : (a b : Bool) (c : ℕ) → cond b 1 (cond a 1 c) ≡ cond (a || b) 1 c
+    either true true c = refl
+    either true false c = refl
+    either false true c = refl
+    either false false c = refl
+
+    go : cell (recorded l (opened m)) (16 + y) ≡ cond (has l y) 1 (cell (opened m) (16 + y)) → cell (recorded r (recorded l (opened m))) (16 + y) ≡ cond (has r y) 1 (cell (recorded l (opened m)) (16 + y))
+        → cell (closed (pairIn (cell (recorded l (opened m)) 0) (recorded r (recorded l (opened m))))) (16 + y) ≡ cond (has l y || has r y) 1 (cell m (16 + y))
+    go el er =
+        let m₂ = recorded r (recorded l (opened m)) in
+        let a = cell (recorded l (opened m)) 0 in
+        shut-other (pairIn a m₂) (16 + y) (λ q. omega arith) ∙ pair-mark m₂ a (16 + y) (omega arith) (omega arith) ∙ er
+        ∙ ap (cond (has r y) 1) (el ∙ ap (cond (has l y) 1) (opened-other m (16 + y) (λ q. omega arith))) ∙ either (has l y) (has r y) (cell m (16 + y))
 
 -- what is stored from the start on is read from the start on
 stored : (l x : List ℕ) → length x ≤ length l → take (length x) (sets l 0 x) ≡ x
 stored l x h =
     ap (take (length x)) (sets-eq x l 0 (omega arith)) ∙ take-at x (drop (0 + length x) l) (length x) refl
-
-unplaced-placed : (ls : List Placed) → AllBelow 10000 (map value ls) → map unplaced (map placed ls) ≡ ls
-unplaced-placed [] h = refl
-unplaced-placed (l ∷ ls) h =
-    let b : l .1 < 10000 = h .0 in
-    let p : (l .0 * 16384 + l .1) / 16384 ≡ l .0 = omega arith in
-    let q : (l .0 * 16384 + l .1) % 16384 ≡ l .1 = omega arith in
-    ap₂ (λ (x : Placed) (xs : List Placed). x ∷ xs) (ap₂ (λ (x y : ℕ). (x, y)) p q) (unplaced-placed ls (h .1))
 
 first-numbers : (n : ℕ) (P : List (ℕ × ℕ)) → SecondsBelow 65536 P → map (firstNumber n) (map children P) ≡ map (λ c. childNumber n (c .0)) P
 first-numbers n [] h = refl
@@ -67,35 +275,10 @@ pub record TableOf (n : ℕ) (t : Tree) (rs : List Row) : Type 0 where
   pub accepted : tableFault n rs ≡ none
   pub tree : tableTree n rs ≡ t
 
-module _ {s ls ps ls′ ps′ : List ℕ} {r : Next} (t : TextTook s ls ps ls′ ps′ r) where
-  -- the recorded labels are those of the text
-  pub labels-recorded : r .labels ≤ length ls → map unplaced (take (r .labels) ls′) ≡ labelsOf s
-  labels-recorded h =
-      let n : r .labels ≡ length (map placed (labelsOf s)) = t .label-count ∙ sym (length-map (labelsOf s) placed) in
-      ap₂ (λ (k : ℕ) (l : List ℕ). map unplaced (take k l)) n (t .label-record)
-      ∙ ap (map unplaced) (stored ls (map placed (labelsOf s)) (omega arith)) ∙ unplaced-placed (labelsOf s) (text-small (t .reads-as))
-
-  -- labels without a fault are the leaves 0 to n-1
-  pub leaves-recorded : labelFault (r .labels) [] (labelsOf s) ≡ none → LeavesBelow (r .labels) (t .tree)
-  leaves-recorded e =
-      subst (λ (n : ℕ). LeavesBelow n (t .tree)) (sym (t .label-count))
-      (no-fault-leaves (t .reads-as) (subst (λ (n : ℕ). labelFault n [] (labelsOf s) ≡ none) (t .label-count) e))
-
-  -- and the recorded pairs are then an accepted table of the tree
-  pub table-recorded : labelFault (r .labels) [] (labelsOf s) ≡ none → r .labels ≤ 1024 → r .labels - 1 ≤ length ps
-      → TableOf (r .labels) (t .tree) (recordedRows (r .labels) ps′)
-  table-recorded e few room = subst (TableOf (r .labels) (t .tree)) (sym rows) (record { rows = closed-length n u b (omega arith); accepted = closed-accepted n u b (omega arith); tree = closed-tree n u b (omega arith) })
-    where
-      n : ℕ
-      n = r .labels
-
-      u : Tree
-      u = t .tree
-
-      b : LeavesBelow n u
-      b = leaves-recorded e
-
-      rows : recordedRows n ps′ ≡ closedRows n (pairsFrom 0 u)
-      rows =
-          rows-stored n ps ps′ (pairsFrom 0 u) (t .pair-record) (omega (arith, pairs-length 0 u, size-pairs u, t .label-count, text-label-count (t .reads-as))) room
-          (pairs-small n 0 65536 u (leaves-small n u b (omega arith)) (omega (arith, size-pairs u, t .label-count, text-label-count (t .reads-as))))
+-- the pairs of a tree with the leaves 0 to n-1 are an accepted table of it
+pub table-recorded : (n : ℕ) (u : Tree) (ps ps′ : List ℕ) → LeavesBelow n u → n ≤ 1024 → n - 1 ≤ length ps → ps′ ≡ sets ps 0 (map children (pairsFrom 0 u)) → TableOf n u (recordedRows n ps′)
+table-recorded n u ps ps′ b few room e =
+    let size : pairCount u + 1 ≡ n = sym (size-pairs u) ∙ size-below n u b in
+    let rows : recordedRows n ps′ ≡ closedRows n (pairsFrom 0 u) =
+    rows-stored n ps ps′ (pairsFrom 0 u) e (omega (arith, pairs-length 0 u)) room (pairs-small n 0 65536 u (leaves-small n u b (omega arith)) (omega arith)) in
+    subst (TableOf n u) (sym rows) (record { rows = closed-length n u b (omega arith); accepted = closed-accepted n u b (omega arith); tree = closed-tree n u b (omega arith) })

@@ -1,27 +1,47 @@
 // Newick text: the readers below the public calls.
+//
+// What is read goes to one array, since each further array that a call passes on costs more than a label does. The cells at its start stand
+// apart from each other, else the compiler joins two of them to a vector of two.
 ghost use mathlib.Core.Path.{_≡_};
 ghost use mathlib.Core.Bool.{Bool};
+ghost use mathlib.Core.Option.{none, some};
 ghost use Prim.Native.Nat.{ℕ, _+_, _-_, _*_, _≤_, _<_};
 ghost use mathlib.Core.List.{List, [], _++_, map};
-ghost use lib.Dec.{leb};
-ghost use lib.ListN.{length, getD, set, take, drop};
-ghost use Rattle.rules.specs.Newick.{isDigit, labelFault};
-ghost use Rattle.grammar.specs.Reading.{nodeRead, pairRead};
+ghost use lib.ListN.{length, getD, take, drop};
+ghost use Rattle.rules.specs.Newick.{isDigit, labelsOf, labelFault};
+ghost use Rattle.grammar.specs.Reading.{nodeRead};
 ghost use Rattle.grammar.specs.Closed.{childNumber};
-ghost use Rattle.newick.specs.Marks.{Unused, faulty, faultPlace, unplaced};
+ghost use Rattle.newick.specs.Marks.{EachOnce, Unused, nextStart, nextNumber};
 ghost use Rattle.newick.specs.Numbered.{firstNumber, secondNumber};
-ghost use Rattle.newick.specs.Lent.{Same, Blank, Ready, Whole, Took, lastPair, Closing, closed, Answers, Ended, TextAnswers};
+ghost use Rattle.newick.specs.Lent.{cell, Same, Blank, leafIn, pairIn, brokenIn, Ready, Labelled, Answers, Closing, TextAnswers};
 
-// Where a node ends, how many labels and pairs are recorded by then, and the node as a child.
-pub struct Next {
-    pub at: usize,
-    pub labels: usize,
-    pub pairs: usize,
-    pub child: u32,
-}
+// The node that was read last, as a child: a label, or PAIR and the number of a pair.
+const LAST: usize = 0;
 
+// The pair that closes next, as a child.
+const NEXT: usize = 4;
+
+// How many brackets may still open, and one.
+const DEPTH: usize = 8;
+
+// Where the signs break off, once they do.
+const BREAK: usize = 12;
+
+// From here on 1 for each label below 1,024 that was read.
+const MARKS: usize = 16;
+
+// From here on the two children of each pair, in the order in which they close. A text of 6,056 signs has at most 1,513 pairs.
+const PAIRS: usize = 1040;
+
+// What a pair's number is added to: labels are below.
+const PAIR: u32 = 16384;
+
+// Where a node ends that breaks off: a zero that no text reaches, so that whoever looks for the next sign finds none.
+const OFF: usize = 6143;
+
+// What a text is read to: a tree with so many leaves; or the place where it breaks the grammar.
 pub enum Read {
-    Node(Next),
+    Leaves(usize),
     Broken(usize),
 }
 
@@ -39,199 +59,105 @@ fn digit(c: u8) -> bool
     48 <= c && c <= 57
 }
 
-// x with one digit more.
-fn with_digit(x: u32, c: u8) -> u32
-    requires { ⌜ (x < 1000) × (isDigit c ≡ Bool.true) ⌝ }
-    ensures { λ r. ⌜ (r ≡ 10 * x + (c - 48)) × (r ≤ 10 * x + 9) ⌝ }
+// The signs break off at a place, or broke off before.
+fn broken(m: &mut [u32; 2576], at: usize) -> usize
+    requires { ⌜ at < 6144 ⌝ }
+    ensures { λ r. ⌜ (r ≡ 6143) × (now (m .exit) ≡ brokenIn at (now (m .entry))) ⌝ }
 {
-    10 * x + (c as u32 - 48)
+    if at != OFF {
+        m[BREAK] = at as u32;
+    }
+    OFF
 }
 
-// The label that begins with the digit at a place: how many digits it has, and its value.
-fn label(s: &[u8; 6144], at: usize) -> u32
-    requires { ⌜ (at + 3 < 6144) × (isDigit (getD (now s) at 0) ≡ Bool.true) ⌝ }
-    ensures { λ r. ⌜ ((t : List ℕ) → Same (now (s .entry)) t → Whole t at r) ⌝ }
+// The label x is read, which ends at a place.
+fn leaf(m: &mut [u32; 2576], x: u32, end: usize) -> usize
+    ensures { λ r. ⌜ (r ≡ end) × (now (m .exit) ≡ leafIn x (now (m .entry))) ⌝ }
 {
-    let c = sign(s, at);
-    if c == 48 {
-        return 16384;
+    m[LAST] = x;
+    if x < 1024 {
+        m[MARKS + x as usize] = 1;
     }
-    let x = with_digit(0, c);
+    end
+}
+
+// The label whose first sign is c, which is no 0. The signs are added up as they stand, and 48 for each digit taken off at the end; each
+// number of digits has its own way out. Both save instructions for every label.
+fn label(s: &[u8; 6144], m: &mut [u32; 2576], at: usize, c: u8) -> usize
+    requires { ⌜ (at + 4 < 6144) × (c ≡ getD (now s) at 0) × (48 < c) × (c ≤ 57) ⌝ }
+    ensures { λ r. ⌜ ((t : List ℕ) → Same (now (s .entry)) t → Labelled t at (now (m .entry)) (now (m .exit)) r) ⌝ }
+{
     let d = sign(s, at + 1);
     if !digit(d) {
-        return 16384 + x;
+        return leaf(m, c as u32 - 48, at + 1);
     }
-    let y = with_digit(x, d);
+    let x = 10 * c as u32 + d as u32;
     let e = sign(s, at + 2);
     if !digit(e) {
-        return 32768 + y;
+        return leaf(m, x - 48 * 11, at + 2);
     }
-    let z = with_digit(y, e);
+    let y = 10 * x + e as u32;
     let f = sign(s, at + 3);
     if !digit(f) {
-        return 49152 + z;
+        return leaf(m, y - 48 * 111, at + 3);
     }
-    65536 + with_digit(z, f)
+    leaf(m, 10 * y + f as u32 - 48 * 1111, at + 4)
 }
 
-// A label and the place of its first byte in one number.
-fn with_place(at: usize, value: u32) -> u32
-    requires { ⌜ (at ≤ 65536) × (value < 10000) ⌝ }
-    ensures { λ r. ⌜ r ≡ at * 16384 + value ⌝ }
+// The pair of a first child and the node that was read last is closed.
+fn close(m: &mut [u32; 2576], first: u32)
+    requires { ⌜ Closing first (now m) ⌝ }
+    ensures { λ _. ⌜ now (m .exit) ≡ pairIn first (now (m .entry)) ⌝ }
 {
-    at as u32 * 16384 + value
+    let pair = m[NEXT];
+    m[PAIRS + (pair - PAIR) as usize] = first * 65536 + m[LAST];
+    m[LAST] = pair;
+    m[NEXT] = pair + 1;
 }
 
-// Records x as number k, while there is room.
-fn keep(list: &mut [u32; 1024], k: usize, x: u32)
-    requires { ⌜ length (now list) ≡ 1024 ⌝ }
-    ensures { λ _. ⌜ now (list .exit) ≡ set (now (list .entry)) k x ⌝ }
+// The node at a place, a label or a pair: where it ends.
+fn node(s: &[u8; 6144], m: &mut [u32; 2576], at: usize) -> usize
+    requires { ⌜ ((t : List ℕ) × Ready (now s) t at (now m)) ⌝ }
+    ensures { λ r. ⌜ ((t : List ℕ) → Ready (now (s .entry)) t at (now (m .entry)) → Answers (nodeRead (cell (now (m .entry)) 8 - 1)) t at (now (m .entry)) (now (m .exit)) r) ⌝ }
 {
-    if k < 1024 {
-        list[k] = x;
+    let c = sign(s, at);
+    if 48 < c {
+        if 57 < c {
+            return broken(m, at);
+        }
+        return label(s, m, at, c);
     }
-}
-
-// The node that is the label at a place: the label is recorded.
-fn leaf(s: &[u8; 6144], at: usize, labels: &mut [u32; 1024], n: usize, p: usize) -> Next
-    requires { ⌜ ((t : List ℕ) × (ps : List ℕ) × Ready (now s) t at n p (now labels) ps) ⌝ }
-    requires { ⌜ isDigit (getD (now s) at 0) ≡ Bool.true ⌝ }
-    ensures { λ r. ⌜ ((t : List ℕ) (ps : List ℕ) → Ready (now (s .entry)) t at n p (now (labels .entry)) ps → (d : ℕ) → Took (nodeRead d) (now (s .entry)) t at n p (now (labels .entry)) ps (now (labels .exit)) ps r) ⌝ }
-{
-    let l = label(s, at);
-    let x = l % 16384;
-    keep(labels, n, with_place(at, x));
-    Next {
-        at: at + (l / 16384) as usize,
-        labels: n + 1,
-        pairs: p,
-        child: x,
+    if c == 40 {
+        return pair(s, m, at);
     }
-}
-
-// Where a pair ends and what is recorded by then, in one number: what the readers answer.
-fn packed(at: usize, n: usize, p: usize) -> usize
-    requires { ⌜ (at < 65536) × (n < 32768) × (p < 65536) ⌝ }
-    ensures { λ r. ⌜ r ≡ (n * 65536 + p) * 4294967296 + at ⌝ }
-{
-    (n * 65536 + p) * 4294967296 + at
-}
-
-// The pair that was recorded last, as a child.
-fn unpacked(r: usize) -> Next
-    ensures { λ a. ⌜ a ≡ lastPair r ⌝ }
-{
-    let p = r / 4294967296 % 65536;
-    Next {
-        at: r % 4294967296,
-        labels: r / 281474976710656,
-        pairs: p,
-        child: 16383 + p as u32,
+    if c == 48 {
+        return leaf(m, 0, at + 1);
     }
+    broken(m, at)
 }
 
-// The readers' other answer: the place where the bytes break off.
-fn broken(at: usize) -> usize
-    requires { ⌜ at < 65536 ⌝ }
-    ensures { λ r. ⌜ r ≡ 9223372036854775808 + at ⌝ }
+// The pair whose bracket opens at a place.
+fn pair(s: &[u8; 6144], m: &mut [u32; 2576], at: usize) -> usize
+    requires { ⌜ ((t : List ℕ) × Ready (now s) t at (now m)) × (getD (now s) at 0 ≡ 40) ⌝ }
+    ensures { λ r. ⌜ ((t : List ℕ) → Ready (now (s .entry)) t at (now (m .entry)) → Answers (nodeRead (cell (now (m .entry)) 8 - 1)) t at (now (m .entry)) (now (m .exit)) r) ⌝ }
 {
-    9223372036854775808 + at
-}
-
-fn is_broken(r: usize) -> bool
-    ensures { λ b. ⌜ b ≡ leb 9223372036854775808 r ⌝ }
-{
-    9223372036854775808 <= r
-}
-
-// The bracket that closes a pair of two nodes: the pair is recorded.
-fn close(s: &[u8; 6144], a: Next, b: Next, pairs: &mut [u32; 1024]) -> usize
-    requires { ⌜ Closing a b (now pairs) ⌝ }
-    ensures { λ r. ⌜ (r, now (pairs .exit)) ≡ closed (now (s .entry)) a b (now (pairs .entry)) ⌝ }
-{
-    let x = b.at;
-    if sign(s, x) != 41 {
-        return broken(x);
-    }
-    let k = b.pairs;
-    keep(pairs, k, a.child * 65536 + b.child);
-    packed(x + 1, b.labels, k + 1)
-}
-
-// The node at a place where no label begins, if so many brackets may still open.
-pub fn node(
-    s: &[u8; 6144],
-    at: usize,
-    depth: usize,
-    labels: &mut [u32; 1024],
-    n: usize,
-    p: usize,
-    pairs: &mut [u32; 1024],
-) -> usize
-    requires { ⌜ ((t : List ℕ) × Ready (now s) t at n p (now labels) (now pairs)) ⌝ }
-    requires { ⌜ isDigit (getD (now s) at 0) ≡ Bool.false ⌝ }
-    ensures { λ r. ⌜ ((t : List ℕ) → Ready (now (s .entry)) t at n p (now (labels .entry)) (now (pairs .entry)) → Answers (nodeRead depth) (now (s .entry)) t at n p (now (labels .entry)) (now (pairs .entry)) (now (labels .exit)) (now (pairs .exit)) r) ⌝ }
-{
-    if sign(s, at) != 40 {
-        return broken(at);
-    }
+    let depth = m[DEPTH] - 1;
+    m[DEPTH] = depth;
     if depth == 0 {
-        return broken(at);
+        return broken(m, at);
     }
-    pair(s, at + 1, depth - 1, labels, n, p, pairs)
-}
-
-// The two nodes and the signs behind a bracket that opens.
-fn pair(
-    s: &[u8; 6144],
-    at: usize,
-    depth: usize,
-    labels: &mut [u32; 1024],
-    n: usize,
-    p: usize,
-    pairs: &mut [u32; 1024],
-) -> usize
-    requires { ⌜ ((t : List ℕ) × Ready (now s) t at n p (now labels) (now pairs)) ⌝ }
-    ensures { λ r. ⌜ ((t : List ℕ) → Ready (now (s .entry)) t at n p (now (labels .entry)) (now (pairs .entry)) → Answers (pairRead (nodeRead depth)) (now (s .entry)) t at n p (now (labels .entry)) (now (pairs .entry)) (now (labels .exit)) (now (pairs .exit)) r) ⌝ }
-{
-    let a = if digit(sign(s, at)) {
-        leaf(s, at, labels, n, p)
-    } else {
-        let r = node(s, at, depth, labels, n, p, pairs);
-        if is_broken(r) {
-            return r;
-        }
-        unpacked(r)
-    };
-    let x = a.at;
+    let x = node(s, m, at + 1);
     if sign(s, x) != 44 {
-        return broken(x);
+        return broken(m, x);
     }
-    let b = if digit(sign(s, x + 1)) {
-        leaf(s, x + 1, labels, a.labels, a.pairs)
-    } else {
-        let r = node(s, x + 1, depth, labels, a.labels, a.pairs, pairs);
-        if is_broken(r) {
-            return r;
-        }
-        unpacked(r)
-    };
-    close(s, a, b, pairs)
-}
-
-// The sign at the end of a text of so many bytes, and nothing behind it.
-fn end(s: &[u8; 6144], count: usize, a: Next) -> Read
-    requires { ⌜ a .at < 6144 ⌝ }
-    ensures { λ r. ⌜ ((t : List ℕ) → Same (now (s .entry)) t → length t ≡ count → a .at ≤ count → Ended t a r) ⌝ }
-{
-    let x = a.at;
-    if sign(s, x) != 59 {
-        return Read::Broken(x);
+    let first = m[LAST];
+    let y = node(s, m, x + 1);
+    if sign(s, y) != 41 {
+        return broken(m, y);
     }
-    if x + 1 < count {
-        return Read::Broken(x + 1);
-    }
-    Read::Node(a)
+    close(m, first);
+    m[DEPTH] = m[DEPTH] + 1;
+    y + 1
 }
 
 // A text in front of zeros.
@@ -246,65 +172,106 @@ fn copy(s: &[u8], signs: &mut [u8; 6144])
     }
 }
 
-// The whole text. Its labels with their places and its pairs are recorded while there is room for them.
-pub fn text(s: &[u8], labels: &mut [u32; 1024], pairs: &mut [u32; 1024]) -> Read
-    requires { ⌜ (length (now s) ≤ 6056) × (length (now labels) ≡ 1024) × (length (now pairs) ≡ 1024) ⌝ }
-    ensures { λ r. ⌜ TextAnswers (now (s .entry)) (now (labels .entry)) (now (pairs .entry)) (now (labels .exit)) (now (pairs .exit)) r ⌝ }
+// The whole text: a node, the sign at its end, and nothing behind it.
+pub fn text(s: &[u8], m: &mut [u32; 2576]) -> Read
+    requires { ⌜ (length (now s) ≤ 6056) × (length (now m) ≡ 2576) ⌝ }
+    ensures { λ r. ⌜ TextAnswers (now (s .entry)) (now (m .entry)) (now (m .exit)) r ⌝ }
 {
     let mut signs = [0u8; 6144];
     copy(s, &mut signs);
-    if digit(sign(&signs, 0)) {
-        let a = leaf(&signs, 0, labels, 0, 0);
-        return end(&signs, s.len(), a);
+    m[NEXT] = PAIR;
+    m[DEPTH] = 1024;
+    let x = node(&signs, m, 0);
+    if sign(&signs, x) != 59 {
+        broken(m, x);
+        return Read::Broken(m[BREAK] as usize);
     }
-    let r = node(&signs, 0, 1023, labels, 0, 0, pairs);
-    if is_broken(r) {
-        return Read::Broken(r - 9223372036854775808);
+    if x + 1 < s.len() {
+        return Read::Broken(x + 1);
     }
-    end(&signs, s.len(), unpacked(r))
+    Read::Leaves((m[NEXT] - PAIR) as usize + 1)
 }
 
-// The place of the first label at fault, if one is.
-pub enum Fault {
-    At(usize),
-    Nothing,
-}
-
-// x is not below n, or is used already.
-fn at_fault(used: &[u8], n: usize, x: usize) -> bool
-    requires { ⌜ n ≤ length (now used) ⌝ }
-    ensures { λ r. ⌜ r ≡ faulty (now (used .entry)) n x ⌝ }
+// 1 where a label has no mark, else 0.
+fn absent(mark: u32) -> u32
+    ensures { λ r. ⌜ (r ≤ 1) × (r ≡ 0 → mark ≡ 0 → ⊥) × ((r ≡ 0 → ⊥) → mark ≡ 0) ⌝ }
 {
-    if x < n {
-        return used[x] != 0;
-    }
-    true
+    if mark == 0 { 1 } else { 0 }
 }
 
-fn check_labels(labels: &[u32], n: usize, used: &mut [u8]) -> Fault
-    requires { ⌜ (n ≤ length (now labels)) × (n ≤ length (now used)) × Unused n (now used) ⌝ }
-    ensures { λ r. ⌜ faultPlace r ≡ labelFault n [] (map unplaced (take n (now (labels .entry)))) ⌝ }
+// Whether each label below n was read: n labels then have no fault. No branch leaves this loop, so it becomes vector code.
+pub fn each_once(m: &[u32], n: usize) -> bool
+    requires { ⌜ (n ≤ 1024) × (length (now m) ≡ 2576) ⌝ }
+    ensures { λ r. ⌜ EachOnce (now (m .entry)) n r ⌝ }
 {
-    let mut i = 0;
+    let mut missing: u32 = 0;
+    let mut i: usize = 0;
     while i < n {
-        let l = labels[i];
-        let x = (l % 16384) as usize;
-        if at_fault(used, n, x) {
-            return Fault::At((l / 16384) as usize);
-        }
-        used[x] = 1;
+        missing += absent(m[MARKS + i]);
         i += 1;
     }
-    Fault::Nothing
+    missing == 0
 }
 
-// The first label at fault of n labels that a text's readers recorded.
-pub fn label_fault(labels: &[u32], n: usize) -> Fault
-    requires { ⌜ (n ≤ length (now labels)) × (n ≤ 1024) ⌝ }
-    ensures { λ r. ⌜ faultPlace r ≡ labelFault n [] (map unplaced (take n (now (labels .entry)))) ⌝ }
+// Where a label begins that a digit at a place belongs to.
+fn next_start(inside: bool, start: usize, at: usize) -> usize
+    ensures { λ r. ⌜ r ≡ nextStart inside start at ⌝ }
+{
+    if inside {
+        return start;
+    }
+    at
+}
+
+// Its number so far.
+fn next_number(inside: bool, x: usize, c: u8) -> usize
+    requires { ⌜ (isDigit c ≡ Bool.true) × (inside ≡ Bool.true → x < 1024) ⌝ }
+    ensures { λ r. ⌜ r ≡ nextNumber inside x c ⌝ }
+{
+    let d = c as usize - 48;
+    if inside {
+        return 10 * x + d;
+    }
+    d
+}
+
+// Looks at the bytes one by one. A label that reaches n is at fault whatever digits follow.
+fn look(s: &[u8], n: usize, used: &mut [u8]) -> usize
+    requires { ⌜ (n ≤ 1024) × (length (now used) ≡ 1024) × Unused (now used) × (labelFault n [] (labelsOf (now s)) ≡ none → ⊥) ⌝ }
+    ensures { λ r. ⌜ some r ≡ labelFault n [] (labelsOf (now (s .entry))) ⌝ }
+{
+    let mut inside = false;
+    let mut start: usize = 0;
+    let mut x: usize = 0;
+    let mut at: usize = 0;
+    while at < s.len() {
+        let c = s[at];
+        if digit(c) {
+            start = next_start(inside, start, at);
+            x = next_number(inside, x, c);
+            if n <= x {
+                return start;
+            }
+            inside = true;
+        } else if inside {
+            if used[x] != 0 {
+                return start;
+            }
+            used[x] = 1;
+            inside = false;
+        }
+        at += 1;
+    }
+    start
+}
+
+// The place of the first label at fault, where one is: the second look at a text, which only a refusal needs.
+pub fn first_fault(s: &[u8], n: usize) -> usize
+    requires { ⌜ (n ≤ 1024) × (labelFault n [] (labelsOf (now s)) ≡ none → ⊥) ⌝ }
+    ensures { λ r. ⌜ some r ≡ labelFault n [] (labelsOf (now (s .entry))) ⌝ }
 {
     let mut used = [0u8; 1024];
-    check_labels(labels, n, &mut used)
+    look(s, n, &mut used)
 }
 
 // The number of a recorded child among n leaves: a leaf as it stands, a pair behind the leaves.
@@ -319,7 +286,7 @@ fn child_number(c: u32, n: usize) -> u16
 }
 
 // The children of n-1 recorded pairs by their numbers.
-pub fn children(pairs: &[u32], n: usize, left: &mut [u16], right: &mut [u16])
+fn numbered_children(pairs: &[u32], n: usize, left: &mut [u16], right: &mut [u16])
     requires { ⌜ (n ≤ 1024) × (n - 1 ≤ length (now pairs)) × (n - 1 ≤ length (now left)) × (n - 1 ≤ length (now right)) ⌝ }
     ensures { λ _. ⌜ now (left .exit) ≡ map (firstNumber n) (take (n - 1) (now (pairs .entry))) ++ drop (n - 1) (now (left .entry)) ⌝ }
     ensures { λ _. ⌜ now (right .exit) ≡ map (secondNumber n) (take (n - 1) (now (pairs .entry))) ++ drop (n - 1) (now (right .entry)) ⌝ }
@@ -331,4 +298,13 @@ pub fn children(pairs: &[u32], n: usize, left: &mut [u16], right: &mut [u16])
         right[k] = child_number(p % 65536, n);
         k += 1;
     }
+}
+
+// The children of the n-1 pairs that a text's readers recorded, by their numbers.
+pub fn children(m: &[u32], n: usize, left: &mut [u16], right: &mut [u16])
+    requires { ⌜ (n ≤ 1024) × (length (now m) ≡ 2576) × (n - 1 ≤ length (now left)) × (n - 1 ≤ length (now right)) ⌝ }
+    ensures { λ _. ⌜ now (left .exit) ≡ map (firstNumber n) (take (n - 1) (drop 1040 (now (m .entry)))) ++ drop (n - 1) (now (left .entry)) ⌝ }
+    ensures { λ _. ⌜ now (right .exit) ≡ map (secondNumber n) (take (n - 1) (drop 1040 (now (m .entry)))) ++ drop (n - 1) (now (right .entry)) ⌝ }
+{
+    numbered_children(&m[PAIRS..], n, left, right);
 }

@@ -1,8 +1,8 @@
 -- A node that is written: a leaf by its word, a pair child by child.
 -- Main results: leaf-room, leaf-wrote, open-room, first-room, comma-room, second-room, close-room, pair-stands, root-room, end-room, text-stands.
 use mathlib.Core.Bool.{Bool, true, false, cond}
-use mathlib.Core.List.{List, [], _∷_}
-use mathlib.Core.Path.{_≡_, refl, sym, ap, subst, subst₂, _∙_}
+use mathlib.Core.List.{List}
+use mathlib.Core.Path.{_≡_, sym, ap, subst, subst₂, _∙_}
 use Prim.Native.Nat.{ℕ, _+_, _-_, _*_, _/_, _%_, _≤_, _<_}
 use native.Mathlib.Omega.{arith}
 use lib.Dec.{ltb}
@@ -10,7 +10,7 @@ use lib.ListN.{length, getD, set, length-set}
 use lib.Seq.{sets}
 use borrow.Author.Tests.{lt-ltb}
 use Rattle.rules.specs.Newick.{digits, pairText, nodeText, textOf}
-use Rattle.rules.specs.Tree.{Tree, node, least}
+use Rattle.rules.specs.Tree.{node, least}
 use Rattle.table_laws.specs.Tied.{treeAt, wholeTree, tree-leaf, tree-pair}
 use Rattle.grammar.specs.Decimal.{digitCount, digits-length}
 use Rattle.grammar.specs.Length.{pair-length}

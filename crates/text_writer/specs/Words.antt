@@ -1,7 +1,7 @@
 -- The word of a label: its signs, the first one lowest, and in the highest byte, where it has fewer than four, how many.
 -- Main definitions: wordOf, wordBytes, signCount. Main results: word-signs, word-bytes, word-small, word-two, word-three, word-four.
 use mathlib.Core.Bool.{Bool, true, false, cond}
-use mathlib.Core.List.{List, [], _∷_, _++_}
+use mathlib.Core.List.{List, [], _∷_}
 use mathlib.Core.Path.{_≡_, refl, sym, ap, subst, _∙_}
 use Prim.Native.Nat.{ℕ, _+_, _-_, _*_, _/_, _%_, _≤_, _<_}
 use native.Mathlib.Omega.{arith}
@@ -9,7 +9,7 @@ use lib.Dec.{ltb}
 use lib.ListN.{length, take}
 use borrow.Author.Tests.{lt-ltb, le-ltb, ltb-true, ltb-false}
 use Rattle.rules.specs.Newick.{digits}
-use Rattle.grammar.specs.Decimal.{twoDigits, digits-one, digits-two, digits-three, digits-four}
+use Rattle.grammar.specs.Decimal.{digits-one, digits-two, digits-three, digits-four}
 
 -- the four bytes of a word, the lowest first
 abbrev pub wordBytes : ℕ → List ℕ

@@ -11,11 +11,18 @@ ghost use lib.Seq.{sets};
 ghost use Rattle.rules.specs.Newick.{digits, nodeText, textOf};
 ghost use Rattle.grammar.specs.Decimal.{twoDigits};
 ghost use Rattle.table_laws.specs.Tied.{treeAt, wholeTree};
-ghost use Rattle.text_writer.specs.Words.{wordBytes, signCount, wordOf, Longer};
+ghost use Rattle.text_writer.specs.Words.{wordBytes, signCount, Longer};
 ghost use Rattle.text_writer.specs.Output.{Wrote, LeafWords, Tens, TenMore, NodeRoom, TextRoom, Stands};
 
 // Where words has the number of leaves: behind the nodes, of which there are at most 2,047.
 const LEAVES: usize = 2047;
+
+// The second, third and fourth sign of a word stand at these values of its bytes; a count of signs stands where the fourth sign does.
+const SECOND: u32 = 256;
+
+const THIRD: u32 = 65536;
+
+const FOURTH: u32 = 16777216;
 
 // The sign of a digit.
 fn sign(d: u16) -> u8
@@ -74,7 +81,8 @@ fn ten_words(words: &mut [u32], at: usize, first: u32, step: u32)
     }
 }
 
-// The words of the labels that continue the labels from one on, below another, by one digit. The result is the label that would come next.
+// The words of the labels that continue those of from .. to by one digit: the first of ten has so much more, and each other a step more than
+// the one before it. The result is the label that would be continued next.
 fn longer_labels(words: &mut [u32], from: usize, to: usize, more: u32, step: u32) -> usize
     requires { ⌜ (1 ≤ from) × (to ≤ 103) × (more ≤ 900000000) × (step ≤ 16777216) × Tens from (now words) × Longer from to more step ⌝ }
     ensures { λ r. ⌜ Tens r (now (words .exit)) × (from ≤ r) × (to ≤ r) ⌝ }
@@ -97,16 +105,16 @@ fn lesser(x: usize, y: usize) -> usize
     y
 }
 
-// The words of n leaves: first the labels of one digit, then those of two, three and four.
+// The words of n leaves: first the labels of one digit, then those of two, three and four, whose count makes room for a sign.
 pub fn leaf_words(words: &mut [u32], n: usize)
     requires { ⌜ (n ≤ 1024) × (length (now words) ≡ 2048) ⌝ }
     ensures { λ _. ⌜ LeafWords n (now (words .exit)) ⌝ }
 {
-    ten_words(words, 0, 16777264, 1);
+    ten_words(words, 0, FOURTH + 48, 1);
     let tens = (n + 9) / 10;
-    let a = longer_labels(words, 1, lesser(tens, 10), 16789504, 256);
-    let b = longer_labels(words, a, lesser(tens, 100), 19922944, 65536);
-    longer_labels(words, b, tens, 754974720, 16777216);
+    let a = longer_labels(words, 1, lesser(tens, 10), FOURTH + 48 * SECOND, SECOND);
+    let b = longer_labels(words, a, lesser(tens, 100), FOURTH + 48 * THIRD, THIRD);
+    longer_labels(words, b, tens, 48 * FOURTH - 3 * FOURTH, FOURTH);
     words[LEAVES] = n as u32;
 }
 
@@ -116,24 +124,24 @@ fn put_word(w: u32, text: &mut [u8; 6144], at: usize)
     ensures { λ _. ⌜ now (text .exit) ≡ sets (now (text .entry)) at (wordBytes w) ⌝ }
 {
     text[at] = (w % 256) as u8;
-    text[at + 1] = (w / 256 % 256) as u8;
-    text[at + 2] = (w / 65536 % 256) as u8;
-    text[at + 3] = (w / 16777216 % 256) as u8;
+    text[at + 1] = (w / SECOND % 256) as u8;
+    text[at + 2] = (w / THIRD % 256) as u8;
+    text[at + 3] = (w / FOURTH % 256) as u8;
 }
 
 // How many signs a label has, by its word.
 fn sign_count(w: u32) -> usize
     ensures { λ r. ⌜ r ≡ signCount w ⌝ }
 {
-    let count = w / 16777216;
+    let count = w / FOURTH;
     if count < 4 {
         return count as usize;
     }
     4
 }
 
-// The text of a node, leaf or pair. Behind a label stand the bytes of its word that are no signs: what follows overwrites them. The pair's word is read behind its bracket,
-// so that a leaf keeps no registers for it.
+// The text of a node, leaf or pair. The bytes of a label's word that are no signs stand behind it until what follows overwrites them. A
+// pair's word is read behind its bracket, so that a leaf saves no registers for it.
 fn write_node(words: &[u32; 2048], node: usize, text: &mut [u8; 6144], at: usize) -> usize
     requires { ⌜ ((n : ℕ) × (left : List ℕ) × (right : List ℕ) × NodeRoom n left right (now words) node (now text) at) ⌝ }
     ensures { λ r. ⌜ ((n : ℕ) (left right : List ℕ) → NodeRoom n left right (now (words .entry)) node (now (text .entry)) at → Stands (nodeText (treeAt n left right node)) at (now (text .entry)) (now (text .exit)) r) ⌝ }

@@ -1,26 +1,29 @@
 -- What a text gives, by what the public call makes of it.
--- Main definitions: Holds, Gives. Main results: held-there, too-many, label-found, vector-held.
+-- Main definitions: Holds, Gives. Main results: held-there, too-many, label-found, some-fault, table-read, vector-held.
+use mathlib.Core.Bool.{Bool, true, false, cond}
 use mathlib.Core.List.{List, [], _++_, map}
 use mathlib.Core.Option.{none, some}
 use mathlib.Core.Path.{_≡_, refl, sym, ap, _∙_, subst}
-use Prim.Native.Nat.{ℕ, _-_, _≤_, _<_}
+use Prim.Native.Nat.{ℕ, _+_, _-_, _≤_, _<_}
 use native.Mathlib.Omega.{arith}
-use lib.ListN.{length, take, length-take}
-use lib.Seq.{take-at, length-sets}
-use Rattle.rules.specs.Tree.{Tree, size}
+use lib.ListN.{length, take, drop, set, length-take, length-drop, length-set}
+use lib.Seq.{take-at, sets, getD-set-same, getD-set-other}
+use borrow.Author.Tests.{lt-ltb}
+use Rattle.rules.specs.Tree.{has, LeavesBelow}
 use Rattle.rules.specs.Order.{vectorOf}
-use Rattle.rules.specs.Newick.{Text, labelsOf, labelFault}
+use Rattle.rules.specs.Newick.{labelsOf, labelFault}
 use Rattle.rules.specs.Answer.{Made, made, refuses}
-use Rattle.rules.specs.Guards.{refuseCount, refuseAt}
-use Rattle.rules.specs.CallFromNewick.{fromLabels, FromText, too-long, breaks, reads-as}
+use Rattle.rules.specs.Guards.{refuseAt}
+use Rattle.rules.specs.CallFromNewick.{fromLabels, FromText, reads-as}
 use Rattle.laws.specs.Guards.{many-leaves, some-leaves, refuse-at, pass-at}
 use Rattle.laws.specs.OneToOne.{every-tree}
 use Rattle.grammar.specs.Labels.{text-label-count}
 use Rattle.grammar.specs.Pairs.{pairsFrom, size-pairs}
-use Rattle.newick.specs.declared.Next.{Next}
-use Rattle.newick.specs.Lent.{placed, children, TextTook}
-use Rattle.newick.specs.Marks.{unplaced}
-use Rattle.newick.specs.Recorded.{TableOf, recordedRows, labels-recorded, leaves-recorded, table-recorded}
+use Rattle.grammar.specs.Faults.{no-fault-leaves}
+use Rattle.grammar.specs.Once.{each-leaf-no-fault}
+use Rattle.newick.specs.Lent.{cell, begun, TextTook}
+use Rattle.newick.specs.Marks.{EachOnce}
+use Rattle.newick.specs.Recorded.{children, kept-cells, pairs-there, marks-there, TableOf, recordedRows, table-recorded}
 use Rattle.texts.specs.declared.Given.{Given}
 use Rattle.texts.specs.declared.Given.the-variants.{Entries, Breaks, TooMany, Label}
 
@@ -38,51 +41,85 @@ Gives s vector (Breaks k) = FromText s (refuses 8 k)
 Gives s vector TooMany = FromText s (refuses 1 0)
 Gives s vector (Label k) = FromText s (refuses 9 k)
 
-module _ {s ls ps ls′ ps′ : List ℕ} {r : Next} (short : length s ≤ 6056) (T : TextTook s ls ps ls′ ps′ r) where
-  makes-labels : (m : Made) → fromLabels s (T .tree) ≡ m → FromText s m
-  makes-labels m e = subst (FromText s) e (reads-as (T .tree) short (T .reads-as))
+-- a text that is read into an array of zeros
+module _ {s m m′ : List ℕ} {n : ℕ} (short : length s ≤ 6056) (T : TextTook s m m′ n) where
+  makes-labels : (o : Made) → fromLabels s (T .tree) ≡ o → FromText s o
+  makes-labels o e = subst (FromText s) e (reads-as (T .tree) short (T .reads-as))
 
-  pub some-labels : 1 ≤ r .labels
-  some-labels = omega (arith, T .label-count, text-label-count (T .reads-as), size-pairs (T .tree))
+  count : length (labelsOf s) ≡ n
+  count = omega (arith, T .leaves, text-label-count (T .reads-as), size-pairs (T .tree))
 
-  -- the records are as long as they were
-  pub labels-kept : length ls ≡ 1024 → 1024 ≡ length ls′
-  labels-kept e = sym (ap length (T .label-record) ∙ length-sets ls 0 (map placed (labelsOf s)) ∙ e)
+  pub some-labels : 1 ≤ n
+  some-labels = omega (arith, T .leaves)
 
-  pub pairs-kept : length ps ≡ 1024 → 1024 ≡ length ps′
-  pairs-kept e = sym (ap length (T .pair-record) ∙ length-sets ps 0 (map children (pairsFrom 0 (T .tree))) ∙ e)
-
-  pub too-many : 1024 < r .labels → FromText s (refuses 1 0)
+  pub too-many : 1024 < n → FromText s (refuses 1 0)
   unfolding fromLabels
-  too-many h = makes-labels (refuses 1 0) (many-leaves (length (labelsOf s)) _ (omega (arith, T .label-count)))
+  too-many h = makes-labels (refuses 1 0) (many-leaves (length (labelsOf s)) _ (omega (arith, count)))
 
-  checked : r .labels ≤ 1024 → fromLabels s (T .tree) ≡ refuseAt 9 (labelFault (r .labels) [] (labelsOf s)) (made (vectorOf (T .tree)))
+  checked : n ≤ 1024 → fromLabels s (T .tree) ≡ refuseAt 9 (labelFault n [] (labelsOf s)) (made (vectorOf (T .tree)))
   unfolding fromLabels
   checked h =
-      some-leaves (length (labelsOf s)) _ (omega (arith, T .label-count, some-labels)) (omega (arith, T .label-count))
-      ∙ ap (λ (n : ℕ). refuseAt 9 (labelFault n [] (labelsOf s)) (made (vectorOf (T .tree)))) (sym (T .label-count))
+      some-leaves (length (labelsOf s)) _ (omega (arith, count, some-labels)) (omega (arith, count))
+      ∙ ap (λ (k : ℕ). refuseAt 9 (labelFault k [] (labelsOf s)) (made (vectorOf (T .tree)))) count
 
-  -- what the check of the recorded labels found is what the text's labels have
-  module _ (few : r .labels ≤ 1024) (room : length ls ≡ 1024) where
-    same-labels : map unplaced (take (r .labels) ls′) ≡ labelsOf s
-    same-labels = labels-recorded T (omega arith)
+  pub label-found : n ≤ 1024 → (k : ℕ) → some k ≡ labelFault n [] (labelsOf s) → FromText s (refuses 9 k)
+  label-found few k e = makes-labels (refuses 9 k) (checked few ∙ refuse-at 9 k _ _ (sym e))
 
-    pub label-found : (k : ℕ) → some k ≡ labelFault (r .labels) [] (map unplaced (take (r .labels) ls′)) → FromText s (refuses 9 k)
-    label-found k e =
-        makes-labels (refuses 9 k) (checked few ∙ refuse-at 9 k _ _ (sym (e ∙ ap (labelFault (r .labels) []) same-labels)))
+  module _ (room : length m ≡ 2576) where
+    begins : (length (begun m) ≡ 2576) × (cell (begun m) 4 ≡ 16384)
+    begins =
+        let l : length (set m 4 16384) ≡ 2576 = length-set m 4 16384 ∙ room in
+        (length-set (set m 4 16384) 8 1024 ∙ l, getD-set-other (set m 4 16384) 8 4 1024 0 (λ q. omega arith) ∙ getD-set-same m 4 16384 0 (omega arith))
 
-    module _ (e : none ≡ labelFault (r .labels) [] (map unplaced (take (r .labels) ls′))) where
-      no-fault : labelFault (r .labels) [] (labelsOf s) ≡ none
-      no-fault = sym (e ∙ ap (labelFault (r .labels) []) same-labels)
+    pub array-kept : length m′ ≡ 2576
+    array-kept = ap length (T .there) ∙ kept-cells (T .tree) (begun m) (omega (arith, begins .0)) (omega (arith, begins .1)) .long ∙ begins .0
 
-      pub recorded : length ps ≡ 1024 → TableOf (r .labels) (T .tree) (recordedRows (r .labels) ps′)
-      recorded q = table-recorded T no-fault few (omega arith)
+    module _ (few : n ≤ 1024) (blank : (k : ℕ) → cell m k ≡ 0) where
+      mark-is : (x : ℕ) → x < n → cell m′ (16 + x) ≡ cond (has (T .tree) x) 1 0
+      mark-is x h =
+          let z : cell (begun m) (16 + x) ≡ 0 =
+          getD-set-other (set m 4 16384) 8 (16 + x) 1024 0 (λ q. omega arith) ∙ getD-set-other m 4 (16 + x) 16384 0 (λ q. omega arith) ∙ blank (16 + x) in
+          ap (λ (l : List ℕ). cell l (16 + x)) (T .there) ∙ marks-there (T .tree) (begun m) (begins .0) (omega (arith, begins .1)) x (omega arith) ∙ ap (cond (has (T .tree) x) 1) z
 
-      pub vector-held : (vector rest : List ℕ) → vector ≡ vectorOf (T .tree) ++ rest → Holds s (r .labels) vector
-      vector-held vector rest v =
-          let l : length (vectorOf (T .tree)) ≡ r .labels = every-tree (r .labels) (T .tree) (leaves-recorded T no-fault) .entries in
-          let f : take (r .labels) vector ≡ vectorOf (T .tree) = ap (take (r .labels)) v ∙ take-at (vectorOf (T .tree)) rest (r .labels) l in
-          record {
-            count = ap length f ∙ l;
-            makes = makes-labels _ (checked few ∙ pass-at 9 _ _ no-fault ∙ ap made (sym f));
-          }
+      -- a label without its mark: some label is at fault
+      pub some-fault : EachOnce m′ n false → labelFault n [] (labelsOf s) ≡ none → ⊥
+      some-fault (x, h, e) q =
+          let b : LeavesBelow (length (labelsOf s)) (T .tree) = no-fault-leaves (T .reads-as) (ap (λ (k : ℕ). labelFault k [] (labelsOf s)) count ∙ q) in
+          let f : has (T .tree) x ≡ true = b .all x ∙ lt-ltb x (length (labelsOf s)) (omega (arith, count)) in
+          let g : cell m′ (16 + x) ≡ 1 = mark-is x h ∙ ap (λ (c : Bool). cond c 1 0) f in
+          omega arith
+
+      module _ (once : EachOnce m′ n true) where
+        has-each : (x : ℕ) → x < n → has (T .tree) x ≡ true
+        has-each x h = go (has (T .tree) x) refl
+          where
+            go : (b : Bool) → has (T .tree) x ≡ b → has (T .tree) x ≡ true
+            go true e = e
+            go false e = absurd (once x h (mark-is x h ∙ ap (λ (c : Bool). cond c 1 0) e))
+
+        no-fault′ : labelFault (length (labelsOf s)) [] (labelsOf s) ≡ none
+        no-fault′ = each-leaf-no-fault (T .reads-as) (λ x h. has-each x (omega (arith, count)))
+
+        no-fault : labelFault n [] (labelsOf s) ≡ none
+        no-fault = ap (λ (k : ℕ). labelFault k [] (labelsOf s)) (sym count) ∙ no-fault′
+
+        leaves : LeavesBelow n (T .tree)
+        leaves = subst (λ (k : ℕ). LeavesBelow k (T .tree)) count (no-fault-leaves (T .reads-as) no-fault′)
+
+        pub table-read : TableOf n (T .tree) (recordedRows n (drop 1040 m′))
+        table-read =
+            let p = begins in
+            let z : cell (begun m) 4 - 16384 ≡ 0 = omega arith in
+            let e : drop 1040 m′ ≡ sets (drop 1040 (begun m)) 0 (map children (pairsFrom 0 (T .tree))) =
+            ap (drop 1040) (T .there) ∙ pairs-there (T .tree) (begun m) (omega arith) (omega arith)
+            ∙ ap (λ (k : ℕ). sets (drop 1040 (begun m)) k (map children (pairsFrom k (T .tree)))) z in
+            table-recorded n (T .tree) (drop 1040 (begun m)) (drop 1040 m′) leaves few (omega (arith, length-drop 1040 (begun m))) e
+
+        pub vector-held : (vector rest : List ℕ) → vector ≡ vectorOf (T .tree) ++ rest → Holds s n vector
+        vector-held vector rest v =
+            let l : length (vectorOf (T .tree)) ≡ n = every-tree n (T .tree) leaves .entries in
+            let f : take n vector ≡ vectorOf (T .tree) = ap (take n) v ∙ take-at (vectorOf (T .tree)) rest n l in
+            record {
+              count = ap length f ∙ l;
+              makes = makes-labels _ (checked few ∙ pass-at 9 _ _ no-fault ∙ ap made (sym f));
+            }

@@ -1,7 +1,7 @@
 -- The words of a tree's nodes: those of the leaves, and behind them, row by row, those of the pairs.
 -- Main definitions: Paired, Pairing. Main results: pairing-start, pairing-next, pairing-end, vector-paired.
-use mathlib.Core.List.{List, [], _++_, map}
-use mathlib.Core.Path.{_≡_, refl, sym, ap, ap₂, subst, _∙_}
+use mathlib.Core.List.{List, map}
+use mathlib.Core.Path.{_≡_, sym, ap, subst, _∙_}
 use Prim.Native.Nat.{ℕ, _+_, _-_, _*_, _≤_, _<_}
 use native.Mathlib.Omega.{arith}
 use lib.ListN.{length, getD, set, length-set, take, drop}

@@ -4,7 +4,7 @@
 use mathlib.Core.Bool.{Bool, true, false, cond}
 use mathlib.Core.List.{List, [], _∷_, _++_, map}
 use mathlib.Core.Path.{_≡_, refl, sym, ap, ap₂, _∙_}
-use Prim.Native.Nat.{ℕ, zero, suc, _+_, _-_, _≤_, _<_, min}
+use Prim.Native.Nat.{ℕ, zero, suc, _+_, _-_, _≤_, _<_}
 use native.Mathlib.Omega.{arith}
 use lib.Dec.{eqb}
 use lib.ListN.{length, getD, take, drop, length-map, List·getD-map}
@@ -16,7 +16,7 @@ use Rattle.rules.specs.Tree.{Tree, leaf, node, least, Clusters, treeOf}
 use Rattle.rules.specs.Newick.{textOf}
 use Rattle.rules.specs.Table.{Row, rowsFrom, nodesOf, tableTree}
 use Rattle.merging.specs.Insertion.{pairsOf, pairs, pairs-count, valid-bounded}
-use Rattle.merging.specs.Greedy.{Under, under-pairs}
+use Rattle.merging.specs.Greedy.{under-pairs}
 use Rattle.merging.specs.Named.{named, Good, good, Rising, rising, smaller-named, larger-named, still-named, named-below}
 use Rattle.laws.specs.TreeOf.{tree-by-pairs, tree-leaves}
 use Rattle.grammar.specs.Length.{textLength, text-length, text-length-most}

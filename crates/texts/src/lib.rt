@@ -1,5 +1,4 @@
 // The text of a vector's tree, and the vector of a text's tree: what the public calls do between their checks.
-use newick::Fault;
 use newick::Read;
 use vector::wide;
 ghost use mathlib.Core.Path.{_≡_};
@@ -117,14 +116,14 @@ pub fn write_tree(v: &[u16], out: &mut [u8])
 }
 
 // The vector of the tree with n leaves whose pairs are recorded, at the front of vector.
-fn pairs_vector(pairs: &[u32], n: usize, vector: &mut [u16])
-    requires { ⌜ (1 ≤ n) × (n ≤ 1024) × (n - 1 ≤ length (now pairs)) × (n ≤ length (now vector)) ⌝ }
-    requires { ⌜ ((t : Tree) × TableOf n t (recordedRows n (now pairs))) ⌝ }
-    ensures { λ _. ⌜ ((t : Tree) → TableOf n t (recordedRows n (now (pairs .entry))) → now (vector .exit) ≡ vectorOf t ++ drop n (now (vector .entry))) ⌝ }
+fn pairs_vector(m: &[u32], n: usize, vector: &mut [u16])
+    requires { ⌜ (1 ≤ n) × (n ≤ 1024) × (length (now m) ≡ 2576) × (n ≤ length (now vector)) ⌝ }
+    requires { ⌜ ((t : Tree) × TableOf n t (recordedRows n (drop 1040 (now m)))) ⌝ }
+    ensures { λ _. ⌜ ((t : Tree) → TableOf n t (recordedRows n (drop 1040 (now (m .entry)))) → now (vector .exit) ≡ vectorOf t ++ drop n (now (vector .entry))) ⌝ }
 {
     let mut left = [0u16; 1024];
     let mut right = [0u16; 1024];
-    newick::children(pairs, n, &mut left, &mut right);
+    newick::children(m, n, &mut left, &mut right);
     reading::children_vector(n, &left, &right, vector);
 }
 
@@ -133,22 +132,18 @@ pub fn read_vector(s: &[u8], vector: &mut [u16]) -> Given
     requires { ⌜ (length (now s) ≤ 6056) × (length (now vector) ≡ 1024) ⌝ }
     ensures { λ r. ⌜ Gives (now (s .entry)) (now (vector .exit)) r ⌝ }
 {
-    let mut labels = [0u32; 1024];
-    let mut pairs = [0u32; 1024];
-    match newick::text(s, &mut labels, &mut pairs) {
+    let mut m = [0u32; 2576];
+    match newick::text(s, &mut m) {
         Read::Broken(k) => Given::Breaks(k),
-        Read::Node(a) => {
-            let n = a.labels;
+        Read::Leaves(n) => {
             if 1024 < n {
                 return Given::TooMany;
             }
-            match newick::label_fault(&labels, n) {
-                Fault::At(k) => Given::Label(k),
-                Fault::Nothing => {
-                    pairs_vector(&pairs, n, vector);
-                    Given::Entries(n)
-                }
+            if !newick::each_once(&m, n) {
+                return Given::Label(newick::first_fault(s, n));
             }
+            pairs_vector(&m, n, vector);
+            Given::Entries(n)
         }
     }
 }

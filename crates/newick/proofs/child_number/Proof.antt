@@ -1,4 +1,3 @@
-use native.Mathlib.Omega.{arith}
 use borrow.Author.Needs.{needs}
 use Rattle.newick.proofs.Numbering.{number-leaf, number-pair}
 use Rattle.newick.proofs.child_number.Statement.{statement}

@@ -1,5 +1,3 @@
-use native.Mathlib.Omega.{arith}
-use borrow.Author.Needs.{needs}
 use Rattle.newick.proofs.Bytes.{digit-from, digit-below}
 use Rattle.newick.proofs.digit.Statement.{statement}
 use Rattle.newick.proofs.digit.Tie as tie

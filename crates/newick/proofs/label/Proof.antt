@@ -1,126 +1,169 @@
-use Prim.Native.Nat.{ℕ}
-use mathlib.Core.List.{List}
-use mathlib.Core.Path.{_∙_, sym, ap}
-use borrow.Author.Tests.{not-true, not-false}
-use Rattle.rules.specs.Newick.{isDigit}
-use Rattle.newick.specs.Lent.{Same}
-use Rattle.newick.proofs.Numbers.{Digits, whole-zero, digits-one, digits-more, digits-stop, digits-full}
 use native.Mathlib.Omega.{arith}
 use borrow.Author.Needs.{needs}
+use Prim.Native.Nat.{_+_, _-_, _*_}
+use mathlib.Core.Path.{refl, ap, sym, _∙_}
+use borrow.Author.Tests.{not-true, not-false}
+use Rattle.rules.specs.Newick.{isDigit}
+use Rattle.newick.proofs.Numbers.{digits-one, digits-more, labelled-stop, labelled-full}
+use Rattle.newick.proofs.Steps.{digit-in}
+use Rattle.newick.proofs.Bytes.{digit-range}
 use Rattle.newick.proofs.label.Statement.{statement}
 use Rattle.newick.proofs.label.Tie as tie
 use Rattle.newick.proofs.label.Reads as reads
 use Rattle.newick.proofs.label.Lts as lts
 use Rattle.newick.proofs.digit.Reads as digit-reads
+use Rattle.newick.proofs.leaf.Reads as leaf-reads
 use Rattle.newick.proofs.sign.Reads as sign-reads
-use Rattle.newick.proofs.with_digit.Reads as with-digit-reads
-
--- one digit is read, then two, three and four
-one : (c : tie.After-with-digit) (t : List ℕ) → Same (c .before .before .before .args .s .now) t → Digits t (c .before .before .before .args .at) 1 3 (c .with-digit .result)
-one c t same = digits-one (c .before .before .before .args .s .now) t same _ _ _ (c .before .before .sign .ensures) (c .before .before .before .pre .1) (c .before .if1 .left) (c .with-digit .ensures .0)
-
-two : (c : tie.After-with-digit2) (t : List ℕ) → Same (c .before .before .before .before .before .before .before .args .s .now) t → Digits t (c .before .before .before .before .before .before .before .args .at) 2 2 (c .with-digit2 .result)
-two c t same = digits-more (c .before .before .before .before .before .before .before .args .s .now) t same _ _ (one (c .before .before .before .before) t same) (c .before .before .before .sign2 .ensures) (sym (c .before .before .digit .ensures) ∙ not-false _ (c .before .if2 .left)) (c .with-digit2 .ensures .0)
-
-three : (c : tie.After-with-digit3) (t : List ℕ) → Same (c .before .before .before .before .before .before .before .before .before .before .before .args .s .now) t → Digits t (c .before .before .before .before .before .before .before .before .before .before .before .args .at) 3 1 (c .with-digit3 .result)
-three c t same = digits-more (c .before .before .before .before .before .before .before .before .before .before .before .args .s .now) t same _ _ (two (c .before .before .before .before) t same) (c .before .before .before .sign3 .ensures) (sym (c .before .before .digit2 .ensures) ∙ not-false _ (c .before .if3 .left)) (c .with-digit3 .ensures .0)
-
-four : (c : tie.After-with-digit4) (t : List ℕ) → Same (c .before .before .before .before .before .before .before .before .before .before .before .before .before .before .before .args .s .now) t → Digits t (c .before .before .before .before .before .before .before .before .before .before .before .before .before .before .before .args .at) 4 0 (c .with-digit4 .result)
-four c t same = digits-more (c .before .before .before .before .before .before .before .before .before .before .before .before .before .before .before .args .s .now) t same _ _ (three (c .before .before .before .before) t same) (c .before .before .before .sign4 .ensures) (sym (c .before .before .digit3 .ensures) ∙ not-false _ (c .before .if4 .left)) (c .with-digit4 .ensures .0)
-
-sign-requires : tie.Need-sign-requires
-sign-requires c κs = search needs
-
-returns : tie.Need-returns
-returns c = λ t same. whole-zero (c .before .before .args .s .now) t same _ _ (c .before .sign .ensures) (c .if1 .taken)
-
-with-digit-requires : tie.Need-with-digit-requires
-with-digit-requires c κs = (omega arith, ap isDigit (c .before .sign .ensures) ∙ c .before .before .pre .1)
 
 add-sign : tie.Need-add-sign
 add-sign c = search needs
 
-sign-requires-2 : tie.Need-sign-requires-2
-sign-requires-2 c κs = search needs
+sign-requires : tie.Need-sign-requires
+sign-requires c κs = search needs
 
 digit-requires : tie.Need-digit-requires
 digit-requires c κs = search needs
 
-add-result : tie.Need-add-result
-add-result c = search needs
+sub-leaf : tie.Need-sub-leaf
+sub-leaf c = search needs
 
-returns-2 : tie.Need-returns-2
-returns-2 c = λ t same. digits-stop (c .before .before .before .before .before .before .args .s .now) t same _ (one (c .before .before .before) t same) (omega arith) (omega (arith, c .before .before .before .with-digit .ensures .1)) (c .before .before .sign2 .ensures) (sym (c .before .digit .ensures) ∙ not-true _ (c .if2 .taken))
+add-leaf : tie.Need-add-leaf
+add-leaf c = search needs
 
-with-digit-requires-2 : tie.Need-with-digit-requires-2
-with-digit-requires-2 c κs = (omega (arith, c .before .before .before .with-digit .ensures .1), sym (c .before .digit .ensures) ∙ not-false _ (c .if2 .left))
+leaf-requires : tie.Need-leaf-requires
+leaf-requires c κs = search needs
+
+returns : tie.Need-returns
+returns c = λ t same. labelled-stop (c .before .before .before .before .before .args .s .now) t same _ (digits-one (c .before .before .before .before .before .args .s .now) t same _ _ _ (c .before .before .before .before .before .pre .1) (ap isDigit (sym (c .before .before .before .before .before .pre .1)) ∙ digit-in _ (omega (arith, c .before .before .before .before .before .pre .2)) (c .before .before .before .before .before .pre .3)) (λ q. omega (arith, c .before .before .before .before .before .pre .2)) refl) (omega arith) (omega (arith, c .before .before .before .before .before .pre .3)) (c .before .before .before .before .sign .ensures) (sym (c .before .before .before .digit .ensures) ∙ not-true _ (c .before .before .if1 .taken)) (c .leaf .ensures)
+
+mul-x : tie.Need-mul-x
+mul-x c = search needs
+
+cast-x : tie.Need-cast-x
+cast-x c = search needs
+
+add-x : tie.Need-add-x
+add-x c = search needs
 
 add-sign-2 : tie.Need-add-sign-2
 add-sign-2 c = search needs
 
-sign-requires-3 : tie.Need-sign-requires-3
-sign-requires-3 c κs = search needs
+sign-requires-2 : tie.Need-sign-requires-2
+sign-requires-2 c κs = search needs
 
 digit-requires-2 : tie.Need-digit-requires-2
 digit-requires-2 c κs = search needs
 
-add-result-2 : tie.Need-add-result-2
-add-result-2 c = search needs
+mul-leaf : tie.Need-mul-leaf
+mul-leaf c = search needs
 
-returns-3 : tie.Need-returns-3
-returns-3 c = λ t same. digits-stop (c .before .before .before .before .before .before .before .before .before .before .args .s .now) t same _ (two (c .before .before .before) t same) (omega arith) (omega (arith, c .before .before .before .with-digit2 .ensures .1, c .before .before .before .before .before .before .before .with-digit .ensures .1)) (c .before .before .sign3 .ensures) (sym (c .before .digit2 .ensures) ∙ not-true _ (c .if3 .taken))
+sub-leaf-2 : tie.Need-sub-leaf-2
+sub-leaf-2 c = omega (arith, c .before .before .before .before .before .before .before .pre .2, digit-range _ (sym (c .before .before .before .before .before .digit .ensures) ∙ not-false _ (c .before .before .before .before .if1 .left)))
 
-with-digit-requires-3 : tie.Need-with-digit-requires-3
-with-digit-requires-3 c κs = (omega (arith, c .before .before .before .with-digit2 .ensures .1, c .before .before .before .before .before .before .before .with-digit .ensures .1), sym (c .before .digit2 .ensures) ∙ not-false _ (c .if3 .left))
+add-leaf-2 : tie.Need-add-leaf-2
+add-leaf-2 c = search needs
+
+leaf-requires-2 : tie.Need-leaf-requires-2
+leaf-requires-2 c κs = search needs
+
+returns-2 : tie.Need-returns-2
+returns-2 c = λ t same. labelled-stop (c .before .before .before .before .before .before .before .before .args .s .now) t same _ (digits-more (c .before .before .before .before .before .before .before .before .args .s .now) t same _ (10 * c .before .before .before .before .before .before .before .before .args .c + c .before .before .before .before .before .before .before .sign .result - 528) (digits-one (c .before .before .before .before .before .before .before .before .args .s .now) t same _ _ _ (c .before .before .before .before .before .before .before .before .pre .1) (ap isDigit (sym (c .before .before .before .before .before .before .before .before .pre .1)) ∙ digit-in _ (omega (arith, c .before .before .before .before .before .before .before .before .pre .2)) (c .before .before .before .before .before .before .before .before .pre .3)) (λ q. omega (arith, c .before .before .before .before .before .before .before .before .pre .2)) refl) (c .before .before .before .before .before .before .before .sign .ensures) (sym (c .before .before .before .before .before .before .digit .ensures) ∙ not-false _ (c .before .before .before .before .before .if1 .left)) (omega (arith, c .before .before .before .before .before .before .before .before .pre .2, digit-range _ (sym (c .before .before .before .before .before .before .digit .ensures) ∙ not-false _ (c .before .before .before .before .before .if1 .left))))) (omega arith) (omega (arith, c .before .before .before .before .before .before .before .before .pre .3, digit-range _ (sym (c .before .before .before .before .before .before .digit .ensures) ∙ not-false _ (c .before .before .before .before .before .if1 .left)))) (c .before .before .before .before .sign2 .ensures) (sym (c .before .before .before .digit2 .ensures) ∙ not-true _ (c .before .before .if2 .taken)) (c .leaf2 .ensures)
+
+mul-y : tie.Need-mul-y
+mul-y c = search needs
+
+cast-y : tie.Need-cast-y
+cast-y c = search needs
+
+add-y : tie.Need-add-y
+add-y c = search needs
 
 add-sign-3 : tie.Need-add-sign-3
 add-sign-3 c = search needs
 
-sign-requires-4 : tie.Need-sign-requires-4
-sign-requires-4 c κs = search needs
+sign-requires-3 : tie.Need-sign-requires-3
+sign-requires-3 c κs = search needs
 
 digit-requires-3 : tie.Need-digit-requires-3
 digit-requires-3 c κs = search needs
 
-add-result-3 : tie.Need-add-result-3
-add-result-3 c = search needs
+mul-leaf-2 : tie.Need-mul-leaf-2
+mul-leaf-2 c = search needs
+
+sub-leaf-3 : tie.Need-sub-leaf-3
+sub-leaf-3 c = omega (arith, c .before .before .before .before .before .before .before .before .before .before .pre .2, digit-range _ (sym (c .before .before .before .before .before .before .before .before .digit .ensures) ∙ not-false _ (c .before .before .before .before .before .before .before .if1 .left)), digit-range _ (sym (c .before .before .before .before .before .digit2 .ensures) ∙ not-false _ (c .before .before .before .before .if2 .left)))
+
+add-leaf-3 : tie.Need-add-leaf-3
+add-leaf-3 c = search needs
+
+leaf-requires-3 : tie.Need-leaf-requires-3
+leaf-requires-3 c κs = search needs
+
+returns-3 : tie.Need-returns-3
+returns-3 c = λ t same. labelled-stop (c .before .before .before .before .before .before .before .before .before .before .before .args .s .now) t same _ (digits-more (c .before .before .before .before .before .before .before .before .before .before .before .args .s .now) t same _ (10 * (10 * c .before .before .before .before .before .before .before .before .before .before .before .args .c + c .before .before .before .before .before .before .before .before .before .before .sign .result) + c .before .before .before .before .before .before .before .sign2 .result - 5328) (digits-more (c .before .before .before .before .before .before .before .before .before .before .before .args .s .now) t same _ (10 * c .before .before .before .before .before .before .before .before .before .before .before .args .c + c .before .before .before .before .before .before .before .before .before .before .sign .result - 528) (digits-one (c .before .before .before .before .before .before .before .before .before .before .before .args .s .now) t same _ _ _ (c .before .before .before .before .before .before .before .before .before .before .before .pre .1) (ap isDigit (sym (c .before .before .before .before .before .before .before .before .before .before .before .pre .1)) ∙ digit-in _ (omega (arith, c .before .before .before .before .before .before .before .before .before .before .before .pre .2)) (c .before .before .before .before .before .before .before .before .before .before .before .pre .3)) (λ q. omega (arith, c .before .before .before .before .before .before .before .before .before .before .before .pre .2)) refl) (c .before .before .before .before .before .before .before .before .before .before .sign .ensures) (sym (c .before .before .before .before .before .before .before .before .before .digit .ensures) ∙ not-false _ (c .before .before .before .before .before .before .before .before .if1 .left)) (omega (arith, c .before .before .before .before .before .before .before .before .before .before .before .pre .2, digit-range _ (sym (c .before .before .before .before .before .before .before .before .before .digit .ensures) ∙ not-false _ (c .before .before .before .before .before .before .before .before .if1 .left))))) (c .before .before .before .before .before .before .before .sign2 .ensures) (sym (c .before .before .before .before .before .before .digit2 .ensures) ∙ not-false _ (c .before .before .before .before .before .if2 .left)) (omega (arith, c .before .before .before .before .before .before .before .before .before .before .before .pre .2, digit-range _ (sym (c .before .before .before .before .before .before .before .before .before .digit .ensures) ∙ not-false _ (c .before .before .before .before .before .before .before .before .if1 .left)), digit-range _ (sym (c .before .before .before .before .before .before .digit2 .ensures) ∙ not-false _ (c .before .before .before .before .before .if2 .left))))) (omega arith) (omega (arith, c .before .before .before .before .before .before .before .before .before .before .before .pre .3, digit-range _ (sym (c .before .before .before .before .before .before .before .before .before .digit .ensures) ∙ not-false _ (c .before .before .before .before .before .before .before .before .if1 .left)), digit-range _ (sym (c .before .before .before .before .before .before .digit2 .ensures) ∙ not-false _ (c .before .before .before .before .before .if2 .left)))) (c .before .before .before .before .sign3 .ensures) (sym (c .before .before .before .digit3 .ensures) ∙ not-true _ (c .before .before .if3 .taken)) (c .leaf3 .ensures)
+
+mul-leaf-3 : tie.Need-mul-leaf-3
+mul-leaf-3 c = search needs
+
+cast-leaf : tie.Need-cast-leaf
+cast-leaf c = search needs
+
+add-leaf-4 : tie.Need-add-leaf-4
+add-leaf-4 c = search needs
+
+mul-leaf-4 : tie.Need-mul-leaf-4
+mul-leaf-4 c = search needs
+
+sub-leaf-4 : tie.Need-sub-leaf-4
+sub-leaf-4 c = omega (arith, c .before .before .before .before .before .before .before .before .before .before .pre .2, digit-range _ (sym (c .before .before .before .before .before .before .before .before .digit .ensures) ∙ not-false _ (c .before .before .before .before .before .before .before .if1 .left)), digit-range _ (sym (c .before .before .before .before .before .digit2 .ensures) ∙ not-false _ (c .before .before .before .before .if2 .left)), digit-range _ (sym (c .before .before .digit3 .ensures) ∙ not-false _ (c .before .if3 .left)))
+
+add-leaf-5 : tie.Need-add-leaf-5
+add-leaf-5 c = search needs
+
+leaf-requires-4 : tie.Need-leaf-requires-4
+leaf-requires-4 c κs = search needs
 
 returns-4 : tie.Need-returns-4
-returns-4 c = λ t same. digits-stop (c .before .before .before .before .before .before .before .before .before .before .before .before .before .before .args .s .now) t same _ (three (c .before .before .before) t same) (omega arith) (omega (arith, c .before .before .before .with-digit3 .ensures .1, c .before .before .before .before .before .before .before .with-digit2 .ensures .1, c .before .before .before .before .before .before .before .before .before .before .before .with-digit .ensures .1)) (c .before .before .sign4 .ensures) (sym (c .before .digit3 .ensures) ∙ not-true _ (c .if4 .taken))
-
-with-digit-requires-4 : tie.Need-with-digit-requires-4
-with-digit-requires-4 c κs = (omega (arith, c .before .before .before .with-digit3 .ensures .1, c .before .before .before .before .before .before .before .with-digit2 .ensures .1, c .before .before .before .before .before .before .before .before .before .before .before .with-digit .ensures .1), sym (c .before .digit3 .ensures) ∙ not-false _ (c .if4 .left))
-
-add-result-4 : tie.Need-add-result-4
-add-result-4 c = search needs
-
-returns-5 : tie.Need-returns-5
-returns-5 c = λ t same. digits-full (four (c) t same) (omega (arith, c .with-digit4 .ensures .1, c .before .before .before .before .with-digit3 .ensures .1, c .before .before .before .before .before .before .before .before .with-digit2 .ensures .1, c .before .before .before .before .before .before .before .before .before .before .before .before .with-digit .ensures .1))
+returns-4 c = λ t same. labelled-full (digits-more (c .before .before .before .before .before .before .before .before .before .before .before .args .s .now) t same _ _ (digits-more (c .before .before .before .before .before .before .before .before .before .before .before .args .s .now) t same _ (10 * (10 * c .before .before .before .before .before .before .before .before .before .before .before .args .c + c .before .before .before .before .before .before .before .before .before .before .sign .result) + c .before .before .before .before .before .before .before .sign2 .result - 5328) (digits-more (c .before .before .before .before .before .before .before .before .before .before .before .args .s .now) t same _ (10 * c .before .before .before .before .before .before .before .before .before .before .before .args .c + c .before .before .before .before .before .before .before .before .before .before .sign .result - 528) (digits-one (c .before .before .before .before .before .before .before .before .before .before .before .args .s .now) t same _ _ _ (c .before .before .before .before .before .before .before .before .before .before .before .pre .1) (ap isDigit (sym (c .before .before .before .before .before .before .before .before .before .before .before .pre .1)) ∙ digit-in _ (omega (arith, c .before .before .before .before .before .before .before .before .before .before .before .pre .2)) (c .before .before .before .before .before .before .before .before .before .before .before .pre .3)) (λ q. omega (arith, c .before .before .before .before .before .before .before .before .before .before .before .pre .2)) refl) (c .before .before .before .before .before .before .before .before .before .before .sign .ensures) (sym (c .before .before .before .before .before .before .before .before .before .digit .ensures) ∙ not-false _ (c .before .before .before .before .before .before .before .before .if1 .left)) (omega (arith, c .before .before .before .before .before .before .before .before .before .before .before .pre .2, digit-range _ (sym (c .before .before .before .before .before .before .before .before .before .digit .ensures) ∙ not-false _ (c .before .before .before .before .before .before .before .before .if1 .left))))) (c .before .before .before .before .before .before .before .sign2 .ensures) (sym (c .before .before .before .before .before .before .digit2 .ensures) ∙ not-false _ (c .before .before .before .before .before .if2 .left)) (omega (arith, c .before .before .before .before .before .before .before .before .before .before .before .pre .2, digit-range _ (sym (c .before .before .before .before .before .before .before .before .before .digit .ensures) ∙ not-false _ (c .before .before .before .before .before .before .before .before .if1 .left)), digit-range _ (sym (c .before .before .before .before .before .before .digit2 .ensures) ∙ not-false _ (c .before .before .before .before .before .if2 .left))))) (c .before .before .before .before .sign3 .ensures) (sym (c .before .before .before .digit3 .ensures) ∙ not-false _ (c .before .before .if3 .left)) (omega (arith, c .before .before .before .before .before .before .before .before .before .before .before .pre .2, digit-range _ (sym (c .before .before .before .before .before .before .before .before .before .digit .ensures) ∙ not-false _ (c .before .before .before .before .before .before .before .before .if1 .left)), digit-range _ (sym (c .before .before .before .before .before .before .digit2 .ensures) ∙ not-false _ (c .before .before .before .before .before .if2 .left)), digit-range _ (sym (c .before .before .before .digit3 .ensures) ∙ not-false _ (c .before .before .if3 .left))))) (omega (arith, c .before .before .before .before .before .before .before .before .before .before .before .pre .3, digit-range _ (sym (c .before .before .before .before .before .before .before .before .before .digit .ensures) ∙ not-false _ (c .before .before .before .before .before .before .before .before .if1 .left)), digit-range _ (sym (c .before .before .before .before .before .before .digit2 .ensures) ∙ not-false _ (c .before .before .before .before .before .if2 .left)), digit-range _ (sym (c .before .before .before .digit3 .ensures) ∙ not-false _ (c .before .before .if3 .left)))) (c .leaf4 .ensures)
 
 pub label-spec : {M : Type 1} → statement M
 label-spec =
     tie.close
     (tie.spec
-    sign-requires
-    returns
-    with-digit-requires
     add-sign
-    sign-requires-2
+    sign-requires
     digit-requires
-    add-result
-    returns-2
-    with-digit-requires-2
+    sub-leaf
+    add-leaf
+    leaf-requires
+    returns
+    mul-x
+    cast-x
+    add-x
     add-sign-2
-    sign-requires-3
+    sign-requires-2
     digit-requires-2
-    add-result-2
-    returns-3
-    with-digit-requires-3
+    mul-leaf
+    sub-leaf-2
+    add-leaf-2
+    leaf-requires-2
+    returns-2
+    mul-y
+    cast-y
+    add-y
     add-sign-3
-    sign-requires-4
+    sign-requires-3
     digit-requires-3
-    add-result-3
-    returns-4
-    with-digit-requires-4
-    add-result-4
-    returns-5)
+    mul-leaf-2
+    sub-leaf-3
+    add-leaf-3
+    leaf-requires-3
+    returns-3
+    mul-leaf-3
+    cast-leaf
+    add-leaf-4
+    mul-leaf-4
+    sub-leaf-4
+    add-leaf-5
+    leaf-requires-4
+    returns-4)

@@ -1,89 +1,88 @@
-use Rattle.newick.proofs.Whole.{zeros-blank, ready-start, text-broken, text-answers}
-use Rattle.newick.proofs.Took.{took, broke}
-use Rattle.newick.specs.Lent.{Ready}
-use Rattle.rules.specs.Newick.{isDigit}
-use borrow.Author.Tests.{leb-true, leb-false}
-use lib.ListN.{length-replicate}
-use mathlib.Core.Path.{refl, ap, sym, _∙_}
-use Prim.Native.Nat.{ℕ}
 use native.Mathlib.Omega.{arith}
 use borrow.Author.Needs.{needs}
+use Prim.Native.Nat.{ℕ}
+use mathlib.Core.Path.{refl, sym, _∙_}
+use lib.ListN.{length-replicate}
+use Rattle.newick.proofs.Took.{answers-place}
+use Rattle.newick.proofs.Whole.{zeros-blank, ready-start, text-broken, broken-small, end-place, text-longer, text-took}
 use Rattle.newick.proofs.text.Statement.{statement}
 use Rattle.newick.proofs.text.Tie as tie
 use Rattle.newick.proofs.text.Reads as reads
 use Rattle.newick.proofs.text.Lts as lts
+use Rattle.newick.proofs.broken.Reads as broken-reads
 use Rattle.newick.proofs.copy.Reads as copy-reads
-use Rattle.newick.proofs.digit.Reads as digit-reads
-use Rattle.newick.proofs.end.Reads as end-reads
-use Rattle.newick.proofs.is_broken.Reads as is-broken-reads
-use Rattle.newick.proofs.leaf.Reads as leaf-reads
 use Rattle.newick.proofs.node.Reads as node-reads
 use Rattle.newick.proofs.sign.Reads as sign-reads
-use Rattle.newick.proofs.unpacked.Reads as unpacked-reads
-
--- the text is copied, and nothing is read yet
-ready : (c : tie.After-copy) → Ready (c .copy .last .1 .0) (c .before .before .before .args .s .now) 0 0 0 (c .before .before .before .args .labels .now) (c .before .before .before .args .pairs .now)
-ready c = ready-start (c .copy .ensures) (c .before .before .before .pre .0) (c .before .before .before .pre .1) (c .before .before .before .pre .2)
 
 copy-requires : tie.Need-copy-requires
 copy-requires c κs = (c .before .before .pre .0, length-replicate {A = ℕ} 6144 0, zeros-blank 6144)
 
-sign-requires : tie.Need-sign-requires
-sign-requires c κs = search needs
+element-write-m : tie.Need-element-write-m
+element-write-m c = search needs
 
-digit-requires : tie.Need-digit-requires
-digit-requires c κs = search needs
-
-leaf-requires : tie.Need-leaf-requires
-leaf-requires c κs = ((c .before .before .before .before .before .before .before .before .before .args .s .now, c .before .before .before .before .before .before .before .before .before .args .pairs .now, ready (c .before .before .before .before .before .before)), ap isDigit (sym (c .before .before .before .before .sign .ensures)) ∙ sym (c .before .before .before .digit .ensures) ∙ c .before .before .if1 .taken)
-
-end-requires : tie.Need-end-requires
-end-requires c κs = let T = c .before .leaf .ensures (c .before .before .before .before .before .before .before .before .before .before .before .args .s .now) (c .before .before .before .before .before .before .before .before .before .before .before .args .pairs .now) (ready (c .before .before .before .before .before .before .before .before)) 1023 in omega (arith, T .ready .within, T .ready .short)
-
-returns : tie.Need-returns
-returns c = let s = c .before .before .before .before .before .before .before .before .before .before .before .before .args .s .now in
-    let T = c .before .before .leaf .ensures s (c .before .before .before .before .before .before .before .before .before .before .before .before .args .pairs .now) (ready (c .before .before .before .before .before .before .before .before .before)) 1023 in
-    text-answers _ s _ _ _ _ _ (c .end .result) T (c .end .ensures s (ready (c .before .before .before .before .before .before .before .before .before) .same) refl (T .ready .within))
+element-write-m-2 : tie.Need-element-write-m-2
+element-write-m-2 c = search needs
 
 node-requires : tie.Need-node-requires
-node-requires c κs = ((c .before .before .before .before .before .before .before .before .before .before .args .s .now, ready (c .before .before .before .before .before .before .before)), ap isDigit (sym (c .before .before .before .before .before .sign .ensures)) ∙ sym (c .before .before .before .before .digit .ensures) ∙ c .before .before .before .if1 .left)
+node-requires c κs = (c .before .before .before .before .before .args .s .now, (ready-start {signs = c .before .before .copy .last .1 .0} {s = c .before .before .before .before .before .args .s .now} (c .before .before .before .before .before .args .m .now) (c .before .before .copy .ensures) (c .before .before .before .before .before .pre .0) (c .before .before .before .before .before .pre .1)))
 
-is-broken-requires : tie.Need-is-broken-requires
-is-broken-requires c κs = search needs
+sign-requires : tie.Need-sign-requires
+sign-requires c κs = answers-place (c .before .before .before .before .before .before .before .pre .0) (c .before .node .ensures (c .before .before .before .before .before .before .before .args .s .now) (ready-start {signs = c .before .before .before .before .copy .last .1 .0} {s = c .before .before .before .before .before .before .before .args .s .now} (c .before .before .before .before .before .before .before .args .m .now) (c .before .before .before .before .copy .ensures) (c .before .before .before .before .before .before .before .pre .0) (c .before .before .before .before .before .before .before .pre .1)))
 
-sub-t20 : tie.Need-sub-t20
-sub-t20 c = omega (arith, leb-true 9223372036854775808 (c .before .before .node .result) (sym (c .before .is-broken .ensures) ∙ c .if2 .taken))
+broken-requires : tie.Need-broken-requires
+broken-requires c κs = answers-place (c .before .before .before .before .before .before .before .before .before .before .pre .0) (c .before .before .before .before .node .ensures (c .before .before .before .before .before .before .before .before .before .before .args .s .now) (ready-start {signs = c .before .before .before .before .before .before .before .copy .last .1 .0} {s = c .before .before .before .before .before .before .before .before .before .before .args .s .now} (c .before .before .before .before .before .before .before .before .before .before .args .m .now) (c .before .before .before .before .before .before .before .copy .ensures) (c .before .before .before .before .before .before .before .before .before .before .pre .0) (c .before .before .before .before .before .before .before .before .before .before .pre .1)))
+
+element-copy-out-t20 : tie.Need-element-copy-out-t20
+element-copy-out-t20 c = search needs
+
+cast-t16 : tie.Need-cast-t16
+cast-t16 c = omega (arith, broken-small (c .before .before .before .before .before .before .before .before .before .before .before .before .args .m .now) (c .before .before .before .before .before .before .before .before .before .before .before .before .pre .1) (ready-start {signs = c .before .before .before .before .before .before .before .before .before .copy .last .1 .0} {s = c .before .before .before .before .before .before .before .before .before .before .before .before .args .s .now} (c .before .before .before .before .before .before .before .before .before .before .before .before .args .m .now) (c .before .before .before .before .before .before .before .before .before .copy .ensures) (c .before .before .before .before .before .before .before .before .before .before .before .before .pre .0) (c .before .before .before .before .before .before .before .before .before .before .before .before .pre .1)) (c .before .before .before .before .before .before .node .ensures (c .before .before .before .before .before .before .before .before .before .before .before .before .args .s .now) (ready-start {signs = c .before .before .before .before .before .before .before .before .before .copy .last .1 .0} {s = c .before .before .before .before .before .before .before .before .before .before .before .before .args .s .now} (c .before .before .before .before .before .before .before .before .before .before .before .before .args .m .now) (c .before .before .before .before .before .before .before .before .before .copy .ensures) (c .before .before .before .before .before .before .before .before .before .before .before .before .pre .0) (c .before .before .before .before .before .before .before .before .before .before .before .before .pre .1))) (c .before .broken .ensures .1))
+
+returns : tie.Need-returns
+returns c = text-broken (c .before .before .before .before .before .before .before .before .before .before .before .before .args .m .now) (c .before .before .before .before .before .before .before .before .before .before .before .before .pre .1) (ready-start {signs = c .before .before .before .before .before .before .before .before .before .copy .last .1 .0} {s = c .before .before .before .before .before .before .before .before .before .before .before .before .args .s .now} (c .before .before .before .before .before .before .before .before .before .before .before .before .args .m .now) (c .before .before .before .before .before .before .before .before .before .copy .ensures) (c .before .before .before .before .before .before .before .before .before .before .before .before .pre .0) (c .before .before .before .before .before .before .before .before .before .before .before .before .pre .1)) (c .before .before .before .before .before .before .node .ensures (c .before .before .before .before .before .before .before .before .before .before .before .before .args .s .now) (ready-start {signs = c .before .before .before .before .before .before .before .before .before .copy .last .1 .0} {s = c .before .before .before .before .before .before .before .before .before .before .before .before .args .s .now} (c .before .before .before .before .before .before .before .before .before .before .before .before .args .m .now) (c .before .before .before .before .before .before .before .before .before .copy .ensures) (c .before .before .before .before .before .before .before .before .before .before .before .before .pre .0) (c .before .before .before .before .before .before .before .before .before .before .before .before .pre .1))) (λ q. c .before .before .before .if1 .taken (c .before .before .before .before .sign .ensures ∙ q)) (c .before .broken .ensures .1)
+
+add-if2 : tie.Need-add-if2
+add-if2 c = omega (arith, answers-place (c .before .before .before .before .before .before .before .before .before .pre .0) (c .before .before .before .node .ensures (c .before .before .before .before .before .before .before .before .before .args .s .now) (ready-start {signs = c .before .before .before .before .before .before .copy .last .1 .0} {s = c .before .before .before .before .before .before .before .before .before .args .s .now} (c .before .before .before .before .before .before .before .before .before .args .m .now) (c .before .before .before .before .before .before .copy .ensures) (c .before .before .before .before .before .before .before .before .before .pre .0) (c .before .before .before .before .before .before .before .before .before .pre .1))))
+
+add-t23 : tie.Need-add-t23
+add-t23 c = omega (arith, answers-place (c .before .before .before .before .before .before .before .before .before .before .pre .0) (c .before .before .before .before .node .ensures (c .before .before .before .before .before .before .before .before .before .before .args .s .now) (ready-start {signs = c .before .before .before .before .before .before .before .copy .last .1 .0} {s = c .before .before .before .before .before .before .before .before .before .before .args .s .now} (c .before .before .before .before .before .before .before .before .before .before .args .m .now) (c .before .before .before .before .before .before .before .copy .ensures) (c .before .before .before .before .before .before .before .before .before .before .pre .0) (c .before .before .before .before .before .before .before .before .before .before .pre .1))))
 
 returns-2 : tie.Need-returns-2
-returns-2 c = let s = c .before .before .before .before .before .before .before .before .before .before .before .before .before .args .s .now in
-    text-broken s _ (broke (leb-true _ _ (sym (c .before .is-broken .ensures) ∙ c .if2 .taken)) (c .before .before .node .ensures s (ready (c .before .before .before .before .before .before .before .before .before .before))))
+returns-2 c = text-longer (c .before .before .before .before .before .before .before .before .before .before .args .m .now) (c .before .before .before .before .before .before .before .before .before .before .pre .1) (ready-start {signs = c .before .before .before .before .before .before .before .copy .last .1 .0} {s = c .before .before .before .before .before .before .before .before .before .before .args .s .now} (c .before .before .before .before .before .before .before .before .before .before .args .m .now) (c .before .before .before .before .before .before .before .copy .ensures) (c .before .before .before .before .before .before .before .before .before .before .pre .0) (c .before .before .before .before .before .before .before .before .before .before .pre .1)) (c .before .before .before .before .node .ensures (c .before .before .before .before .before .before .before .before .before .before .args .s .now) (ready-start {signs = c .before .before .before .before .before .before .before .copy .last .1 .0} {s = c .before .before .before .before .before .before .before .before .before .before .args .s .now} (c .before .before .before .before .before .before .before .before .before .before .args .m .now) (c .before .before .before .before .before .before .before .copy .ensures) (c .before .before .before .before .before .before .before .before .before .before .pre .0) (c .before .before .before .before .before .before .before .before .before .before .pre .1))) (sym (c .before .before .sign .ensures) ∙ c .before .if1 .left) (c .if2 .taken)
 
-unpacked-requires : tie.Need-unpacked-requires
-unpacked-requires c κs = search needs
+element-copy-out-t26 : tie.Need-element-copy-out-t26
+element-copy-out-t26 c = search needs
 
-end-requires-2 : tie.Need-end-requires-2
-end-requires-2 c κs = let r = took (c .unpacked .ensures) (leb-false _ _ (sym (c .before .before .before .is-broken .ensures) ∙ c .before .before .if2 .left)) (c .before .before .before .before .node .ensures (c .before .before .before .before .before .before .before .before .before .before .before .before .before .before .before .args .s .now) (ready (c .before .before .before .before .before .before .before .before .before .before .before .before))) .ready in
-    omega (arith, r .within, r .short)
+sub-t27 : tie.Need-sub-t27
+sub-t27 c = omega (arith, end-place {signs = c .before .before .before .before .before .before .before .before .copy .last .1 .0} {s = c .before .before .before .before .before .before .before .before .before .before .before .args .s .now} (c .before .before .before .before .before .before .before .before .before .before .before .args .m .now) (c .before .before .before .before .before .before .before .before .before .before .before .pre .1) (ready-start {signs = c .before .before .before .before .before .before .before .before .copy .last .1 .0} {s = c .before .before .before .before .before .before .before .before .before .before .before .args .s .now} (c .before .before .before .before .before .before .before .before .before .before .before .args .m .now) (c .before .before .before .before .before .before .before .before .copy .ensures) (c .before .before .before .before .before .before .before .before .before .before .before .pre .0) (c .before .before .before .before .before .before .before .before .before .before .before .pre .1)) (c .before .before .before .before .before .node .ensures (c .before .before .before .before .before .before .before .before .before .before .before .args .s .now) (ready-start {signs = c .before .before .before .before .before .before .before .before .copy .last .1 .0} {s = c .before .before .before .before .before .before .before .before .before .before .before .args .s .now} (c .before .before .before .before .before .before .before .before .before .before .before .args .m .now) (c .before .before .before .before .before .before .before .before .copy .ensures) (c .before .before .before .before .before .before .before .before .before .before .before .pre .0) (c .before .before .before .before .before .before .before .before .before .before .before .pre .1))) (sym (c .before .before .before .sign .ensures) ∙ c .before .before .if1 .left))
+
+cast-t21 : tie.Need-cast-t21
+cast-t21 c = omega (arith, end-place {signs = c .before .before .before .before .before .before .before .before .copy .last .1 .0} {s = c .before .before .before .before .before .before .before .before .before .before .before .args .s .now} (c .before .before .before .before .before .before .before .before .before .before .before .args .m .now) (c .before .before .before .before .before .before .before .before .before .before .before .pre .1) (ready-start {signs = c .before .before .before .before .before .before .before .before .copy .last .1 .0} {s = c .before .before .before .before .before .before .before .before .before .before .before .args .s .now} (c .before .before .before .before .before .before .before .before .before .before .before .args .m .now) (c .before .before .before .before .before .before .before .before .copy .ensures) (c .before .before .before .before .before .before .before .before .before .before .before .pre .0) (c .before .before .before .before .before .before .before .before .before .before .before .pre .1)) (c .before .before .before .before .before .node .ensures (c .before .before .before .before .before .before .before .before .before .before .before .args .s .now) (ready-start {signs = c .before .before .before .before .before .before .before .before .copy .last .1 .0} {s = c .before .before .before .before .before .before .before .before .before .before .before .args .s .now} (c .before .before .before .before .before .before .before .before .before .before .before .args .m .now) (c .before .before .before .before .before .before .before .before .copy .ensures) (c .before .before .before .before .before .before .before .before .before .before .before .pre .0) (c .before .before .before .before .before .before .before .before .before .before .before .pre .1))) (sym (c .before .before .before .sign .ensures) ∙ c .before .before .if1 .left))
+
+add-t22 : tie.Need-add-t22
+add-t22 c = omega (arith, end-place {signs = c .before .before .before .before .before .before .before .before .copy .last .1 .0} {s = c .before .before .before .before .before .before .before .before .before .before .before .args .s .now} (c .before .before .before .before .before .before .before .before .before .before .before .args .m .now) (c .before .before .before .before .before .before .before .before .before .before .before .pre .1) (ready-start {signs = c .before .before .before .before .before .before .before .before .copy .last .1 .0} {s = c .before .before .before .before .before .before .before .before .before .before .before .args .s .now} (c .before .before .before .before .before .before .before .before .before .before .before .args .m .now) (c .before .before .before .before .before .before .before .before .copy .ensures) (c .before .before .before .before .before .before .before .before .before .before .before .pre .0) (c .before .before .before .before .before .before .before .before .before .before .before .pre .1)) (c .before .before .before .before .before .node .ensures (c .before .before .before .before .before .before .before .before .before .before .before .args .s .now) (ready-start {signs = c .before .before .before .before .before .before .before .before .copy .last .1 .0} {s = c .before .before .before .before .before .before .before .before .before .before .before .args .s .now} (c .before .before .before .before .before .before .before .before .before .before .before .args .m .now) (c .before .before .before .before .before .before .before .before .copy .ensures) (c .before .before .before .before .before .before .before .before .before .before .before .pre .0) (c .before .before .before .before .before .before .before .before .before .before .before .pre .1))) (sym (c .before .before .before .sign .ensures) ∙ c .before .before .if1 .left))
 
 returns-3 : tie.Need-returns-3
-returns-3 c = let s = c .before .before .before .before .before .before .before .before .before .before .before .before .before .before .before .before .args .s .now in
-    let T = took (c .before .unpacked .ensures) (leb-false _ _ (sym (c .before .before .before .before .is-broken .ensures) ∙ c .before .before .before .if2 .left)) (c .before .before .before .before .before .node .ensures s (ready (c .before .before .before .before .before .before .before .before .before .before .before .before .before))) in
-    text-answers _ s _ _ _ _ _ (c .end2 .result) T (c .end2 .ensures s (ready (c .before .before .before .before .before .before .before .before .before .before .before .before .before) .same) refl (T .ready .within))
+returns-3 c = text-took (c .before .before .before .before .before .before .before .before .before .before .before .args .m .now) (c .before .before .before .before .before .before .before .before .before .before .before .pre .1) (ready-start {signs = c .before .before .before .before .before .before .before .before .copy .last .1 .0} {s = c .before .before .before .before .before .before .before .before .before .before .before .args .s .now} (c .before .before .before .before .before .before .before .before .before .before .before .args .m .now) (c .before .before .before .before .before .before .before .before .copy .ensures) (c .before .before .before .before .before .before .before .before .before .before .before .pre .0) (c .before .before .before .before .before .before .before .before .before .before .before .pre .1)) (c .before .before .before .before .before .node .ensures (c .before .before .before .before .before .before .before .before .before .before .before .args .s .now) (ready-start {signs = c .before .before .before .before .before .before .before .before .copy .last .1 .0} {s = c .before .before .before .before .before .before .before .before .before .before .before .args .s .now} (c .before .before .before .before .before .before .before .before .before .before .before .args .m .now) (c .before .before .before .before .before .before .before .before .copy .ensures) (c .before .before .before .before .before .before .before .before .before .before .before .pre .0) (c .before .before .before .before .before .before .before .before .before .before .before .pre .1))) (sym (c .before .before .before .sign .ensures) ∙ c .before .before .if1 .left) (c .before .if2 .left) refl
 
 pub text-spec : {M : Type 1} → statement M
 text-spec =
     tie.close
     (tie.spec
     copy-requires
-    sign-requires
-    digit-requires
-    leaf-requires
-    end-requires
-    returns
+    element-write-m
+    element-write-m-2
     node-requires
-    is-broken-requires
-    sub-t20
+    sign-requires
+    broken-requires
+    element-copy-out-t20
+    cast-t16
+    returns
+    add-if2
+    add-t23
     returns-2
-    unpacked-requires
-    end-requires-2
+    element-copy-out-t26
+    sub-t27
+    cast-t21
+    add-t22
     returns-3)

@@ -11,6 +11,9 @@ use Rattle.text_writer.proofs.lesser.Reads as lesser-reads
 use Rattle.text_writer.proofs.longer_labels.Reads as longer-labels-reads
 use Rattle.text_writer.proofs.ten_words.Reads as ten-words-reads
 
+add-ten-words : tie.Need-add-ten-words
+add-ten-words c = search needs
+
 ten-words-requires : tie.Need-ten-words-requires
 ten-words-requires c κs = search needs
 
@@ -20,15 +23,36 @@ add-tens c = search needs
 lesser-requires : tie.Need-lesser-requires
 lesser-requires c κs = search needs
 
+mul-longer-labels : tie.Need-mul-longer-labels
+mul-longer-labels c = search needs
+
+add-longer-labels : tie.Need-add-longer-labels
+add-longer-labels c = search needs
+
 longer-labels-requires : tie.Need-longer-labels-requires
 longer-labels-requires c κs = (omega arith, omega (arith, c .lesser .ensures), omega arith, omega arith, first-ten (c .before .before .before .before .before .before .before .pre .1) (c .before .before .before .before .ten-words .ensures), word-two _ (omega (arith, c .lesser .ensures)))
 
 lesser-requires-2 : tie.Need-lesser-requires-2
 lesser-requires-2 c κs = search needs
 
+mul-longer-labels-2 : tie.Need-mul-longer-labels-2
+mul-longer-labels-2 c = search needs
+
+add-longer-labels-2 : tie.Need-add-longer-labels-2
+add-longer-labels-2 c = search needs
+
 longer-labels-requires-2 : tie.Need-longer-labels-requires-2
 longer-labels-requires-2 c κs = let L = c .before .before .before .before .longer-labels .ensures in
     (omega (arith, L .1), omega (arith, c .lesser2 .ensures, c .before .before .before .before .before .before .before .before .before .before .before .before .pre .0), omega arith, omega arith, L .0, word-three _ _ (λ h. reaches _ 10 _ _ (c .before .before .before .before .before .lesser .ensures) (L .2) (omega (arith, c .lesser2 .ensures))) (omega (arith, c .lesser2 .ensures)))
+
+mul-longer-labels-3 : tie.Need-mul-longer-labels-3
+mul-longer-labels-3 c = search needs
+
+mul-longer-labels-4 : tie.Need-mul-longer-labels-4
+mul-longer-labels-4 c = search needs
+
+sub-longer-labels : tie.Need-sub-longer-labels
+sub-longer-labels c = search needs
 
 longer-labels-requires-3 : tie.Need-longer-labels-requires-3
 longer-labels-requires-3 c κs = let L = c .before .before .before .longer-labels2 .ensures in
@@ -51,12 +75,20 @@ pub leaf-words-spec : {M : Type 1} → statement M
 leaf-words-spec =
     tie.close
     (tie.spec
+    add-ten-words
     ten-words-requires
     add-tens
     lesser-requires
+    mul-longer-labels
+    add-longer-labels
     longer-labels-requires
     lesser-requires-2
+    mul-longer-labels-2
+    add-longer-labels-2
     longer-labels-requires-2
+    mul-longer-labels-3
+    mul-longer-labels-4
+    sub-longer-labels
     longer-labels-requires-3
     cast-words
     slice-write-words

@@ -1,5 +1,4 @@
 use Rattle.text_writer.proofs.Writing.{four-there}
-use native.Mathlib.Omega.{arith}
 use borrow.Author.Needs.{needs}
 use Rattle.text_writer.proofs.put_word.Statement.{statement}
 use Rattle.text_writer.proofs.put_word.Tie as tie

@@ -1,6 +1,7 @@
 use Rattle.texts.specs.Kept.{kept-children, kept-vector}
 use native.Mathlib.Omega.{arith}
 use borrow.Author.Needs.{needs}
+use lib.ListN.{length-drop}
 use Rattle.texts.proofs.pairs_vector.Statement.{statement}
 use Rattle.texts.proofs.pairs_vector.Tie as tie
 use Rattle.texts.proofs.pairs_vector.Reads as reads
@@ -26,13 +27,13 @@ slice-aggregate-children-vector-2 c = search needs
 children-vector-requires : tie.Need-children-vector-requires
 children-vector-requires c κs = let P = c .before .before .before .before .before .before .before .before .before .before .pre in
     let L = c .before .before .before .before .before .children .ensures in
-    ((P .0 .0, P .0 .1, search needs, search needs, P .0 .3), (_, kept-children _ _ _ _ _ _ _ (P .1 .1) (P .0 .2) (L .0) (L .1)))
+    ((P .0 .0, P .0 .1, search needs, search needs, P .0 .3), (_, kept-children _ _ _ _ _ _ _ (P .1 .1) (omega (arith, length-drop 1040 (c .before .before .before .before .before .before .before .before .before .before .args .m .now), P .0 .1, P .0 .2)) (L .0) (L .1)))
 
 same-length : tie.Need-same-length
 same-length c = search needs
 
 returns : tie.Need-returns
-returns c = λ t T. kept-vector _ _ _ _ _ _ t T (c .before .before .before .before .before .before .before .before .before .before .before .before .before .pre .0 .2) (c .before .before .before .before .before .before .before .before .children .ensures .0) (c .before .before .before .before .before .before .before .before .children .ensures .1) _ _ (c .before .before .children-vector .ensures)
+returns c = λ t T. kept-vector _ _ _ _ _ _ t T (let P = c .before .before .before .before .before .before .before .before .before .before .before .before .before .pre in omega (arith, length-drop 1040 (c .before .before .before .before .before .before .before .before .before .before .before .before .before .args .m .now), P .0 .1, P .0 .2)) (c .before .before .before .before .before .before .before .before .children .ensures .0) (c .before .before .before .before .before .before .before .before .children .ensures .1) _ _ (c .before .before .children-vector .ensures)
 
 pub pairs-vector-spec : {M : Type 1} → statement M
 pairs-vector-spec =

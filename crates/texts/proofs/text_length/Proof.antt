@@ -1,5 +1,4 @@
 use Rattle.texts.specs.Long.{length-closed}
-use native.Mathlib.Omega.{arith}
 use borrow.Author.Needs.{needs}
 use Rattle.texts.proofs.text_length.Statement.{statement}
 use Rattle.texts.proofs.text_length.Tie as tie

@@ -1,4 +1,3 @@
-use native.Mathlib.Omega.{arith}
 use borrow.Author.Needs.{needs}
 use Rattle.table.specs.Numbered.{held-of}
 use Rattle.texts.specs.Paired.{vector-paired}
