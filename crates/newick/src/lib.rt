@@ -127,13 +127,13 @@ fn node(s: &[u8; 6144], m: &mut [u32; 2576], at: usize) -> usize
         }
         return label(s, m, at, c);
     }
-    if c == 40 {
-        return pair(s, m, at);
-    }
     if c == 48 {
         return leaf(m, 0, at + 1);
     }
-    broken(m, at)
+    if c != 40 {
+        return broken(m, at);
+    }
+    pair(s, m, at)
 }
 
 // The pair whose bracket opens at a place.

@@ -50,10 +50,10 @@ node-sign-requires : (t : ℕ) → node-lts.Need-sign-requires (
   broken-reads.Learnt,
   label-reads.Asked,
   label-reads.Learnt,
-  pair-below t,
-  pair.Post,
   leaf-reads.Asked,
   leaf-reads.Learnt,
+  pair-below t,
+  pair.Post,
 ) (node-at t) node.Post
 node-sign-requires t c κs = omega (arith, (c .pre .1 .1) .within, (c .pre .1 .1) .short)
 
@@ -64,10 +64,10 @@ node-broken-requires : (t : ℕ) → node-lts.Need-broken-requires (
   broken-reads.Learnt,
   label-reads.Asked,
   label-reads.Learnt,
-  pair-below t,
-  pair.Post,
   leaf-reads.Asked,
   leaf-reads.Learnt,
+  pair-below t,
+  pair.Post,
 ) (node-at t) node.Post
 node-broken-requires t c κs = omega (arith, (c .before .before .before .before .pre .1 .1) .within, (c .before .before .before .before .pre .1 .1) .short)
 
@@ -78,10 +78,10 @@ node-returns : (t : ℕ) → node-lts.Need-returns (
   broken-reads.Learnt,
   label-reads.Asked,
   label-reads.Learnt,
-  pair-below t,
-  pair.Post,
   leaf-reads.Asked,
   leaf-reads.Learnt,
+  pair-below t,
+  pair.Post,
 ) (node-at t) node.Post
 node-returns t c = λ u y. inr (broke-here y _ (λ q. omega (arith, c .before .before .before .before .sign .ensures, c .before .before .if2 .taken)) (ap isDigit (sym (c .before .before .before .before .sign .ensures)) ∙ no-digit-above _ (c .before .before .if2 .taken)) (c .broken .ensures))
 
@@ -92,10 +92,10 @@ node-label-requires : (t : ℕ) → node-lts.Need-label-requires (
   broken-reads.Learnt,
   label-reads.Asked,
   label-reads.Learnt,
-  pair-below t,
-  pair.Post,
   leaf-reads.Asked,
   leaf-reads.Learnt,
+  pair-below t,
+  pair.Post,
 ) (node-at t) node.Post
 node-label-requires t c κs = (omega (arith, (c .before .before .before .before .pre .1 .1) .within, (c .before .before .before .before .pre .1 .1) .short), c .before .before .before .sign .ensures, c .before .before .if1 .taken, c .before .if2 .left)
 
@@ -106,40 +106,12 @@ node-returns-2 : (t : ℕ) → node-lts.Need-returns-2 (
   broken-reads.Learnt,
   label-reads.Asked,
   label-reads.Learnt,
-  pair-below t,
-  pair.Post,
   leaf-reads.Asked,
   leaf-reads.Learnt,
+  pair-below t,
+  pair.Post,
 ) (node-at t) node.Post
 node-returns-2 t c = λ u y. inl (took-label y _ (λ q. omega (arith, c .before .before .before .before .sign .ensures, c .before .before .before .if1 .taken)) (c .label .ensures u (y .same)))
-
-node-pair-requires : (t : ℕ) → node-lts.Need-pair-requires (
-  sign-reads.Asked,
-  sign-reads.Learnt,
-  broken-reads.Asked,
-  broken-reads.Learnt,
-  label-reads.Asked,
-  label-reads.Learnt,
-  pair-below t,
-  pair.Post,
-  leaf-reads.Asked,
-  leaf-reads.Learnt,
-) (node-at t) node.Post
-node-pair-requires t c κs = (omega (arith, (c .before .before .before .before .pre .1 .1) .within, (c .before .before .before .before .pre .1 .1) .short), ((_, (c .before .before .before .before .pre .1 .1)), sym (c .before .before .before .sign .ensures) ∙ c .before .if3 .taken))
-
-node-returns-3 : (t : ℕ) → node-lts.Need-returns-3 (
-  sign-reads.Asked,
-  sign-reads.Learnt,
-  broken-reads.Asked,
-  broken-reads.Learnt,
-  label-reads.Asked,
-  label-reads.Learnt,
-  pair-below t,
-  pair.Post,
-  leaf-reads.Asked,
-  leaf-reads.Learnt,
-) (node-at t) node.Post
-node-returns-3 t c = λ u y. c .pair .ensures u y
 
 node-add-leaf : (t : ℕ) → node-lts.Need-add-leaf (
   sign-reads.Asked,
@@ -148,10 +120,10 @@ node-add-leaf : (t : ℕ) → node-lts.Need-add-leaf (
   broken-reads.Learnt,
   label-reads.Asked,
   label-reads.Learnt,
-  pair-below t,
-  pair.Post,
   leaf-reads.Asked,
   leaf-reads.Learnt,
+  pair-below t,
+  pair.Post,
 ) (node-at t) node.Post
 node-add-leaf t c = search needs
 
@@ -162,26 +134,26 @@ node-leaf-requires : (t : ℕ) → node-lts.Need-leaf-requires (
   broken-reads.Learnt,
   label-reads.Asked,
   label-reads.Learnt,
-  pair-below t,
-  pair.Post,
   leaf-reads.Asked,
   leaf-reads.Learnt,
+  pair-below t,
+  pair.Post,
 ) (node-at t) node.Post
 node-leaf-requires t c κs = search needs
 
-node-returns-4 : (t : ℕ) → node-lts.Need-returns-4 (
+node-returns-3 : (t : ℕ) → node-lts.Need-returns-3 (
   sign-reads.Asked,
   sign-reads.Learnt,
   broken-reads.Asked,
   broken-reads.Learnt,
   label-reads.Asked,
   label-reads.Learnt,
-  pair-below t,
-  pair.Post,
   leaf-reads.Asked,
   leaf-reads.Learnt,
+  pair-below t,
+  pair.Post,
 ) (node-at t) node.Post
-node-returns-4 t c = λ u y. let e = sym (c .before .before .before .before .before .sign .ensures) ∙ c .before .before .if4 .taken in inl (took-label y _ (λ q. omega (arith, e)) (labelled-zero y e (c .leaf .ensures)))
+node-returns-3 t c = λ u y. let e = sym (c .before .before .before .before .sign .ensures) ∙ c .before .before .if3 .taken in inl (took-label y _ (λ q. omega (arith, e)) (labelled-zero y e (c .leaf .ensures)))
 
 node-broken-requires-2 : (t : ℕ) → node-lts.Need-broken-requires-2 (
   sign-reads.Asked,
@@ -190,12 +162,40 @@ node-broken-requires-2 : (t : ℕ) → node-lts.Need-broken-requires-2 (
   broken-reads.Learnt,
   label-reads.Asked,
   label-reads.Learnt,
-  pair-below t,
-  pair.Post,
   leaf-reads.Asked,
   leaf-reads.Learnt,
+  pair-below t,
+  pair.Post,
 ) (node-at t) node.Post
 node-broken-requires-2 t c κs = omega (arith, (c .before .before .before .before .before .pre .1 .1) .within, (c .before .before .before .before .before .pre .1 .1) .short)
+
+node-returns-4 : (t : ℕ) → node-lts.Need-returns-4 (
+  sign-reads.Asked,
+  sign-reads.Learnt,
+  broken-reads.Asked,
+  broken-reads.Learnt,
+  label-reads.Asked,
+  label-reads.Learnt,
+  leaf-reads.Asked,
+  leaf-reads.Learnt,
+  pair-below t,
+  pair.Post,
+) (node-at t) node.Post
+node-returns-4 t c = λ u y. inr (broke-here y _ (λ q. c .before .before .if4 .taken (c .before .before .before .before .before .sign .ensures ∙ q)) (ap isDigit (sym (c .before .before .before .before .before .sign .ensures)) ∙ no-digit-below _ (c .before .before .before .before .if1 .left) (c .before .before .before .if3 .left)) (c .broken2 .ensures))
+
+node-pair-requires : (t : ℕ) → node-lts.Need-pair-requires (
+  sign-reads.Asked,
+  sign-reads.Learnt,
+  broken-reads.Asked,
+  broken-reads.Learnt,
+  label-reads.Asked,
+  label-reads.Learnt,
+  leaf-reads.Asked,
+  leaf-reads.Learnt,
+  pair-below t,
+  pair.Post,
+) (node-at t) node.Post
+node-pair-requires t c κs = (omega (arith, (c .before .before .before .before .before .pre .1 .1) .within, (c .before .before .before .before .before .pre .1 .1) .short), ((_, (c .before .before .before .before .before .pre .1 .1)), sym (c .before .before .before .before .sign .ensures) ∙ c .before .if4 .left))
 
 node-returns-5 : (t : ℕ) → node-lts.Need-returns-5 (
   sign-reads.Asked,
@@ -204,12 +204,12 @@ node-returns-5 : (t : ℕ) → node-lts.Need-returns-5 (
   broken-reads.Learnt,
   label-reads.Asked,
   label-reads.Learnt,
-  pair-below t,
-  pair.Post,
   leaf-reads.Asked,
   leaf-reads.Learnt,
+  pair-below t,
+  pair.Post,
 ) (node-at t) node.Post
-node-returns-5 t c = λ u y. inr (broke-here y _ (λ q. c .before .before .before .if3 .left (c .before .before .before .before .before .sign .ensures ∙ q)) (ap isDigit (sym (c .before .before .before .before .before .sign .ensures)) ∙ no-digit-below _ (c .before .before .before .before .if1 .left) (c .before .before .if4 .left)) (c .broken2 .ensures))
+node-returns-5 t c = λ u y. c .pair .ensures u y
 
 pair-element-copy-out-depth : (t : ℕ) → pair-lts.Need-element-copy-out-depth (
   broken-reads.Asked,
@@ -513,10 +513,10 @@ pub +node+pair-spec : {M : Type 1} → statement M
   broken-reads.Learnt,
   label-reads.Asked,
   label-reads.Learnt,
-  pair-below t,
-  pair.Post,
   leaf-reads.Asked,
   leaf-reads.Learnt,
+  pair-below t,
+  pair.Post,
 )
     (node-at t)
     node.Post
@@ -525,12 +525,12 @@ pub +node+pair-spec : {M : Type 1} → statement M
     (node-returns t)
     (node-label-requires t)
     (node-returns-2 t)
-    (node-pair-requires t)
-    (node-returns-3 t)
     (node-add-leaf t)
     (node-leaf-requires t)
-    (node-returns-4 t)
+    (node-returns-3 t)
     (node-broken-requires-2 t)
+    (node-returns-4 t)
+    (node-pair-requires t)
     (node-returns-5 t))
     λ t. pair-lts.spec (
       broken-reads.Asked,
