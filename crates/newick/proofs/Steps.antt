@@ -1,6 +1,6 @@
 -- What the small functions of the readers leave, by the definitions of specs/Lent and specs/Marks.
 -- Main results: leaf-small, leaf-large, pair-there, break-there, break-before, start-inside, start-outside, number-inside, number-outside.
-use mathlib.Core.Path.{_≡_, refl}
+use mathlib.Core.Path.{_≡_, refl, ap}
 use mathlib.Core.Bool.{Bool, true, false}
 use mathlib.Core.List.{List}
 use Prim.Native.Nat.{ℕ, zero, suc, _+_, _-_, _*_, _≤_, _<_}
@@ -20,9 +20,12 @@ pub leaf-large : (x : ℕ) (m : List ℕ) → 1024 ≤ x → set m 0 x ≡ leafI
 unfolding leafIn
 leaf-large x m h = rw (le-ltb x 1024 h)
 
-pub pair-there : (first : ℕ) (m : List ℕ) → set (set (set m (1040 + (cell m 4 - 16384)) (first * 65536 + cell m 0)) 0 (cell m 4)) 4 (cell m 4 + 1) ≡ pairIn first m
+pub pair-there : (first : ℕ) (m : List ℕ) → 16384 ≤ cell m 4
+    → set (set (set m (1040 + cell m 4 - 16384) (first * 65536 + cell m 0)) 0 (cell m 4)) 4 (cell m 4 + 1) ≡ pairIn first m
 unfolding pairIn
-pair-there first m = refl
+pair-there first m low =
+    let e : 1040 + cell m 4 - 16384 ≡ 1040 + (cell m 4 - 16384) = omega arith in
+    ap (λ (i : ℕ). set (set (set m i (first * 65536 + cell m 0)) 0 (cell m 4)) 4 (cell m 4 + 1)) e
 
 pub break-there : (at : ℕ) (m : List ℕ) → (at ≡ 6143 → ⊥) → set m 12 at ≡ brokenIn at m
 unfolding brokenIn

@@ -110,7 +110,7 @@ fn close(m: &mut [u32; 2576], first: u32)
     ensures { λ _. ⌜ now (m .exit) ≡ pairIn first (now (m .entry)) ⌝ }
 {
     let pair = m[NEXT];
-    m[PAIRS + (pair - PAIR) as usize] = first * 65536 + m[LAST];
+    m[PAIRS + pair as usize - PAIR as usize] = first * 65536 + m[LAST];
     m[LAST] = pair;
     m[NEXT] = pair + 1;
 }

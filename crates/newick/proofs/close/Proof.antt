@@ -1,3 +1,4 @@
+use native.Mathlib.Omega.{arith}
 use borrow.Author.Needs.{needs}
 use Rattle.newick.proofs.Steps.{pair-there}
 use Rattle.newick.proofs.close.Statement.{statement}
@@ -17,14 +18,17 @@ element-copy-out-m c = search needs
 add-m : tie.Need-add-m
 add-m c = search needs
 
-sub-m : tie.Need-sub-m
-sub-m c = search needs
-
 cast-m : tie.Need-cast-m
 cast-m c = search needs
 
 add-m-2 : tie.Need-add-m-2
 add-m-2 c = search needs
+
+cast-m-2 : tie.Need-cast-m-2
+cast-m-2 c = search needs
+
+sub-m : tie.Need-sub-m
+sub-m c = search needs
 
 mul-m-2 : tie.Need-mul-m-2
 mul-m-2 c = search needs
@@ -42,7 +46,7 @@ element-write-m-3 : tie.Need-element-write-m-3
 element-write-m-3 c = search needs
 
 returns : tie.Need-returns
-returns c = pair-there _ (c .before .before .args .m .now)
+returns c = pair-there _ (c .before .before .args .m .now) (c .before .before .pre .low)
 
 pub close-spec : {M : Type 1} → statement M
 close-spec =
@@ -52,9 +56,10 @@ close-spec =
     mul-m
     element-copy-out-m
     add-m
-    sub-m
     cast-m
     add-m-2
+    cast-m-2
+    sub-m
     mul-m-2
     element-write-m
     element-write-m-2
