@@ -181,7 +181,10 @@ node-returns-4 : (t : ℕ) → node-lts.Need-returns-4 (
   pair-below t,
   pair.Post,
 ) (node-at t) node.Post
-node-returns-4 t c = λ u y. inr (broke-here y _ (λ q. c .before .before .if4 .taken (c .before .before .before .before .before .sign .ensures ∙ q)) (ap isDigit (sym (c .before .before .before .before .before .sign .ensures)) ∙ no-digit-below _ (c .before .before .before .before .if1 .left) (c .before .before .before .if3 .left)) (c .broken2 .ensures))
+node-returns-4 t c = let at-if3 = c .before .before .before in
+    let at-if1 = c .before .before .before .before in
+    let at-sign = c .before .before .before .before .before in
+    λ u y. inr (broke-here y _ (λ q. c .before .before .if4 .taken (at-sign .sign .ensures ∙ q)) (ap isDigit (sym (at-sign .sign .ensures)) ∙ no-digit-below _ (at-if1 .if1 .left) (at-if3 .if3 .left)) (c .broken2 .ensures))
 
 node-pair-requires : (t : ℕ) → node-lts.Need-pair-requires (
   sign-reads.Asked,
@@ -195,7 +198,9 @@ node-pair-requires : (t : ℕ) → node-lts.Need-pair-requires (
   pair-below t,
   pair.Post,
 ) (node-at t) node.Post
-node-pair-requires t c κs = (omega (arith, (c .before .before .before .before .before .pre .1 .1) .within, (c .before .before .before .before .before .pre .1 .1) .short), ((_, (c .before .before .before .before .before .pre .1 .1)), sym (c .before .before .before .before .sign .ensures) ∙ c .before .if4 .left))
+node-pair-requires t c κs = let at-sign = c .before .before .before .before in
+    let start = c .before .before .before .before .before in
+    (omega (arith, (start .pre .1 .1) .within, (start .pre .1 .1) .short), ((_, (start .pre .1 .1)), sym (at-sign .sign .ensures) ∙ c .before .if4 .left))
 
 node-returns-5 : (t : ℕ) → node-lts.Need-returns-5 (
   sign-reads.Asked,
@@ -326,7 +331,10 @@ pair-broken-requires-2 : (t : ℕ) → pair-lts.Need-broken-requires-2 (
   close-reads.Learnt,
 ) (pair-at t) pair.Post
 unfolding opened closed
-pair-broken-requires-2 t c κs = answers-place (c .before .before .before .before .before .before .before .pre .1 .0 .1 .short) (c .before .before .before .node .ensures _ (ready-first (c .before .before .before .before .before .before .before .pre .1 .0 .1) (c .before .before .before .before .before .before .before .pre .1 .1) (c .before .before .before .before .before .if1 .left)))
+pair-broken-requires-2 t c κs = let at-node = c .before .before .before in
+    let at-if1 = c .before .before .before .before .before in
+    let start = c .before .before .before .before .before .before .before in
+    answers-place (start .pre .1 .0 .1 .short) (at-node .node .ensures _ (ready-first (start .pre .1 .0 .1) (start .pre .1 .1) (at-if1 .if1 .left)))
 
 pair-returns-2 : (t : ℕ) → pair-lts.Need-returns-2 (
   broken-reads.Asked,
@@ -366,7 +374,10 @@ pair-add-node-2 : (t : ℕ) → pair-lts.Need-add-node-2 (
   close-reads.Learnt,
 ) (pair-at t) pair.Post
 unfolding opened closed
-pair-add-node-2 t c = omega (arith, answers-place (c .before .before .before .before .before .before .before .before .pre .1 .0 .1 .short) (c .before .before .before .before .node .ensures _ (ready-first (c .before .before .before .before .before .before .before .before .pre .1 .0 .1) (c .before .before .before .before .before .before .before .before .pre .1 .1) (c .before .before .before .before .before .before .if1 .left))))
+pair-add-node-2 t c = let at-node = c .before .before .before .before in
+    let at-if1 = c .before .before .before .before .before .before in
+    let start = c .before .before .before .before .before .before .before .before in
+    omega (arith, answers-place (start .pre .1 .0 .1 .short) (at-node .node .ensures _ (ready-first (start .pre .1 .0 .1) (start .pre .1 .1) (at-if1 .if1 .left))))
 
 pair-node-requires-2 : (t : ℕ) → pair-lts.Need-node-requires-2 (
   broken-reads.Asked,
@@ -379,8 +390,14 @@ pair-node-requires-2 : (t : ℕ) → pair-lts.Need-node-requires-2 (
   close-reads.Learnt,
 ) (pair-at t) pair.Post
 unfolding opened closed
-pair-node-requires-2 t c κs = let T = took-first (c .before .before .before .before .before .before .before .before .pre .1 .0 .1) (c .before .before .before .before .before .before .before .before .pre .1 .1) (c .before .before .before .before .before .before .if1 .left) (c .before .before .before .before .node .ensures _ (ready-first (c .before .before .before .before .before .before .before .before .pre .1 .0 .1) (c .before .before .before .before .before .before .before .before .pre .1 .1) (c .before .before .before .before .before .before .if1 .left))) (sym (c .before .before .before .sign .ensures) ∙ c .before .before .if2 .left) in
-    (omega (arith, T .ahead, T .within, c .before .before .before .before .before .before .before .before .pre .1 .0 .1 .short), (_, ready-second (c .before .before .before .before .before .before .before .before .pre .1 .0 .1) (c .before .before .before .before .before .before .before .before .pre .1 .1) (c .before .before .before .before .before .before .if1 .left) (c .before .before .before .before .node .ensures _ (ready-first (c .before .before .before .before .before .before .before .before .pre .1 .0 .1) (c .before .before .before .before .before .before .before .before .pre .1 .1) (c .before .before .before .before .before .before .if1 .left))) (sym (c .before .before .before .sign .ensures) ∙ c .before .before .if2 .left)))
+pair-node-requires-2 t c κs = let at-sign = c .before .before .before in
+    let at-node = c .before .before .before .before in
+    let at-if1 = c .before .before .before .before .before .before in
+    let start = c .before .before .before .before .before .before .before .before in
+    let first = at-node .node .ensures _ (ready-first (start .pre .1 .0 .1) (start .pre .1 .1) (at-if1 .if1 .left)) in
+    let comma = sym (at-sign .sign .ensures) ∙ c .before .before .if2 .left in
+    let T = took-first (start .pre .1 .0 .1) (start .pre .1 .1) (at-if1 .if1 .left) first comma in
+    (omega (arith, T .ahead, T .within, start .pre .1 .0 .1 .short), (_, ready-second (start .pre .1 .0 .1) (start .pre .1 .1) (at-if1 .if1 .left) first comma))
 
 pair-sign-requires-2 : (t : ℕ) → pair-lts.Need-sign-requires-2 (
   broken-reads.Asked,
@@ -393,7 +410,12 @@ pair-sign-requires-2 : (t : ℕ) → pair-lts.Need-sign-requires-2 (
   close-reads.Learnt,
 ) (pair-at t) pair.Post
 unfolding opened closed
-pair-sign-requires-2 t c κs = answers-place (c .before .before .before .before .before .before .before .before .before .pre .1 .0 .1 .short) (c .node2 .ensures _ (ready-second (c .before .before .before .before .before .before .before .before .before .pre .1 .0 .1) (c .before .before .before .before .before .before .before .before .before .pre .1 .1) (c .before .before .before .before .before .before .before .if1 .left) (c .before .before .before .before .before .node .ensures _ (ready-first (c .before .before .before .before .before .before .before .before .before .pre .1 .0 .1) (c .before .before .before .before .before .before .before .before .before .pre .1 .1) (c .before .before .before .before .before .before .before .if1 .left))) (sym (c .before .before .before .before .sign .ensures) ∙ c .before .before .before .if2 .left)))
+pair-sign-requires-2 t c κs = let at-if2 = c .before .before .before in
+    let at-sign = c .before .before .before .before in
+    let at-node = c .before .before .before .before .before in
+    let at-if1 = c .before .before .before .before .before .before .before in
+    let start = c .before .before .before .before .before .before .before .before .before in
+    answers-place (start .pre .1 .0 .1 .short) (c .node2 .ensures _ (ready-second (start .pre .1 .0 .1) (start .pre .1 .1) (at-if1 .if1 .left) (at-node .node .ensures _ (ready-first (start .pre .1 .0 .1) (start .pre .1 .1) (at-if1 .if1 .left))) (sym (at-sign .sign .ensures) ∙ at-if2 .if2 .left)))
 
 pair-broken-requires-3 : (t : ℕ) → pair-lts.Need-broken-requires-3 (
   broken-reads.Asked,
@@ -406,7 +428,16 @@ pair-broken-requires-3 : (t : ℕ) → pair-lts.Need-broken-requires-3 (
   close-reads.Learnt,
 ) (pair-at t) pair.Post
 unfolding opened closed
-pair-broken-requires-3 t c κs = answers-place (c .before .before .before .before .before .before .before .before .before .before .before .before .pre .1 .0 .1 .short) (c .before .before .before .node2 .ensures _ (ready-second (c .before .before .before .before .before .before .before .before .before .before .before .before .pre .1 .0 .1) (c .before .before .before .before .before .before .before .before .before .before .before .before .pre .1 .1) (c .before .before .before .before .before .before .before .before .before .before .if1 .left) (c .before .before .before .before .before .before .before .before .node .ensures _ (ready-first (c .before .before .before .before .before .before .before .before .before .before .before .before .pre .1 .0 .1) (c .before .before .before .before .before .before .before .before .before .before .before .before .pre .1 .1) (c .before .before .before .before .before .before .before .before .before .before .if1 .left))) (sym (c .before .before .before .before .before .before .before .sign .ensures) ∙ c .before .before .before .before .before .before .if2 .left)))
+pair-broken-requires-3 t c κs = let at-node2 = c .before .before .before in
+    let at-if2 = c .before .before .before .before .before .before in
+    let at-sign = c .before .before .before .before .before .before .before in
+    let at-node = c .before .before .before .before .before .before .before .before in
+    let at-if1 = c .before .before .before .before .before .before .before .before .before .before in
+    let start = c .before .before .before .before .before .before .before .before .before .before .before .before in
+    let first = at-node .node .ensures _ (ready-first (start .pre .1 .0 .1) (start .pre .1 .1) (at-if1 .if1 .left)) in
+    let comma = sym (at-sign .sign .ensures) ∙ at-if2 .if2 .left in
+    let second = at-node2 .node2 .ensures _ (ready-second (start .pre .1 .0 .1) (start .pre .1 .1) (at-if1 .if1 .left) first comma) in
+    answers-place (start .pre .1 .0 .1 .short) second
 
 pair-returns-3 : (t : ℕ) → pair-lts.Need-returns-3 (
   broken-reads.Asked,
@@ -435,7 +466,16 @@ pair-close-requires : (t : ℕ) → pair-lts.Need-close-requires (
   close-reads.Learnt,
 ) (pair-at t) pair.Post
 unfolding opened closed
-pair-close-requires t c κs = closing (c .before .before .before .before .before .before .before .before .before .before .before .before .pre .1 .0 .1) (c .before .before .before .before .before .before .before .before .before .before .before .before .pre .1 .1) (c .before .before .before .before .before .before .before .before .before .before .if1 .left) (c .before .before .before .before .before .before .before .before .node .ensures _ (ready-first (c .before .before .before .before .before .before .before .before .before .before .before .before .pre .1 .0 .1) (c .before .before .before .before .before .before .before .before .before .before .before .before .pre .1 .1) (c .before .before .before .before .before .before .before .before .before .before .if1 .left))) (sym (c .before .before .before .before .before .before .before .sign .ensures) ∙ c .before .before .before .before .before .before .if2 .left) (c .before .before .before .node2 .ensures _ (ready-second (c .before .before .before .before .before .before .before .before .before .before .before .before .pre .1 .0 .1) (c .before .before .before .before .before .before .before .before .before .before .before .before .pre .1 .1) (c .before .before .before .before .before .before .before .before .before .before .if1 .left) (c .before .before .before .before .before .before .before .before .node .ensures _ (ready-first (c .before .before .before .before .before .before .before .before .before .before .before .before .pre .1 .0 .1) (c .before .before .before .before .before .before .before .before .before .before .before .before .pre .1 .1) (c .before .before .before .before .before .before .before .before .before .before .if1 .left))) (sym (c .before .before .before .before .before .before .before .sign .ensures) ∙ c .before .before .before .before .before .before .if2 .left))) (sym (c .before .before .sign2 .ensures) ∙ c .before .if3 .left)
+pair-close-requires t c κs = let at-node2 = c .before .before .before in
+    let at-if2 = c .before .before .before .before .before .before in
+    let at-sign = c .before .before .before .before .before .before .before in
+    let at-node = c .before .before .before .before .before .before .before .before in
+    let at-if1 = c .before .before .before .before .before .before .before .before .before .before in
+    let start = c .before .before .before .before .before .before .before .before .before .before .before .before in
+    let first = at-node .node .ensures _ (ready-first (start .pre .1 .0 .1) (start .pre .1 .1) (at-if1 .if1 .left)) in
+    let comma = sym (at-sign .sign .ensures) ∙ at-if2 .if2 .left in
+    let second = at-node2 .node2 .ensures _ (ready-second (start .pre .1 .0 .1) (start .pre .1 .1) (at-if1 .if1 .left) first comma) in
+    closing (start .pre .1 .0 .1) (start .pre .1 .1) (at-if1 .if1 .left) first comma second (sym (c .before .before .sign2 .ensures) ∙ c .before .if3 .left)
 
 pair-element-copy-out-m : (t : ℕ) → pair-lts.Need-element-copy-out-m (
   broken-reads.Asked,
@@ -461,7 +501,18 @@ pair-add-m : (t : ℕ) → pair-lts.Need-add-m (
   close-reads.Learnt,
 ) (pair-at t) pair.Post
 unfolding opened closed
-pair-add-m t c = omega (arith, ap (λ (l : List ℕ). getD l 8 0) (c .before .close .ensures), pair-depth (c .before .before .before .before .before .before .before .before .before .before .before .before .before .before .pre .1 .0 .1) (c .before .before .before .before .before .before .before .before .before .before .before .before .before .before .pre .1 .1) (c .before .before .before .before .before .before .before .before .before .before .before .before .if1 .left) (c .before .before .before .before .before .before .before .before .before .before .node .ensures _ (ready-first (c .before .before .before .before .before .before .before .before .before .before .before .before .before .before .pre .1 .0 .1) (c .before .before .before .before .before .before .before .before .before .before .before .before .before .before .pre .1 .1) (c .before .before .before .before .before .before .before .before .before .before .before .before .if1 .left))) (sym (c .before .before .before .before .before .before .before .before .before .sign .ensures) ∙ c .before .before .before .before .before .before .before .before .if2 .left) (c .before .before .before .before .before .node2 .ensures _ (ready-second (c .before .before .before .before .before .before .before .before .before .before .before .before .before .before .pre .1 .0 .1) (c .before .before .before .before .before .before .before .before .before .before .before .before .before .before .pre .1 .1) (c .before .before .before .before .before .before .before .before .before .before .before .before .if1 .left) (c .before .before .before .before .before .before .before .before .before .before .node .ensures _ (ready-first (c .before .before .before .before .before .before .before .before .before .before .before .before .before .before .pre .1 .0 .1) (c .before .before .before .before .before .before .before .before .before .before .before .before .before .before .pre .1 .1) (c .before .before .before .before .before .before .before .before .before .before .before .before .if1 .left))) (sym (c .before .before .before .before .before .before .before .before .before .sign .ensures) ∙ c .before .before .before .before .before .before .before .before .if2 .left))) (sym (c .before .before .before .before .sign2 .ensures) ∙ c .before .before .before .if3 .left), c .before .before .before .before .before .before .before .before .before .before .before .before .before .before .pre .1 .0 .1 .deep)
+pair-add-m t c = let at-if3 = c .before .before .before in
+    let at-sign2 = c .before .before .before .before in
+    let at-node2 = c .before .before .before .before .before in
+    let at-if2 = c .before .before .before .before .before .before .before .before in
+    let at-sign = c .before .before .before .before .before .before .before .before .before in
+    let at-node = c .before .before .before .before .before .before .before .before .before .before in
+    let at-if1 = c .before .before .before .before .before .before .before .before .before .before .before .before in
+    let start = c .before .before .before .before .before .before .before .before .before .before .before .before .before .before in
+    let first = at-node .node .ensures _ (ready-first (start .pre .1 .0 .1) (start .pre .1 .1) (at-if1 .if1 .left)) in
+    let comma = sym (at-sign .sign .ensures) ∙ at-if2 .if2 .left in
+    let second = at-node2 .node2 .ensures _ (ready-second (start .pre .1 .0 .1) (start .pre .1 .1) (at-if1 .if1 .left) first comma) in
+    omega (arith, ap (λ (l : List ℕ). getD l 8 0) (c .before .close .ensures), pair-depth (start .pre .1 .0 .1) (start .pre .1 .1) (at-if1 .if1 .left) first comma second (sym (at-sign2 .sign2 .ensures) ∙ at-if3 .if3 .left), start .pre .1 .0 .1 .deep)
 
 pair-element-write-m-2 : (t : ℕ) → pair-lts.Need-element-write-m-2 (
   broken-reads.Asked,
@@ -487,7 +538,16 @@ pair-add-result : (t : ℕ) → pair-lts.Need-add-result (
   close-reads.Learnt,
 ) (pair-at t) pair.Post
 unfolding opened closed
-pair-add-result t c = omega (arith, answers-place (c .before .before .before .before .before .before .before .before .before .before .before .before .before .before .pre .1 .0 .1 .short) (c .before .before .before .before .before .node2 .ensures _ (ready-second (c .before .before .before .before .before .before .before .before .before .before .before .before .before .before .pre .1 .0 .1) (c .before .before .before .before .before .before .before .before .before .before .before .before .before .before .pre .1 .1) (c .before .before .before .before .before .before .before .before .before .before .before .before .if1 .left) (c .before .before .before .before .before .before .before .before .before .before .node .ensures _ (ready-first (c .before .before .before .before .before .before .before .before .before .before .before .before .before .before .pre .1 .0 .1) (c .before .before .before .before .before .before .before .before .before .before .before .before .before .before .pre .1 .1) (c .before .before .before .before .before .before .before .before .before .before .before .before .if1 .left))) (sym (c .before .before .before .before .before .before .before .before .before .sign .ensures) ∙ c .before .before .before .before .before .before .before .before .if2 .left))))
+pair-add-result t c = let at-node2 = c .before .before .before .before .before in
+    let at-if2 = c .before .before .before .before .before .before .before .before in
+    let at-sign = c .before .before .before .before .before .before .before .before .before in
+    let at-node = c .before .before .before .before .before .before .before .before .before .before in
+    let at-if1 = c .before .before .before .before .before .before .before .before .before .before .before .before in
+    let start = c .before .before .before .before .before .before .before .before .before .before .before .before .before .before in
+    let first = at-node .node .ensures _ (ready-first (start .pre .1 .0 .1) (start .pre .1 .1) (at-if1 .if1 .left)) in
+    let comma = sym (at-sign .sign .ensures) ∙ at-if2 .if2 .left in
+    let second = at-node2 .node2 .ensures _ (ready-second (start .pre .1 .0 .1) (start .pre .1 .1) (at-if1 .if1 .left) first comma) in
+    omega (arith, answers-place (start .pre .1 .0 .1 .short) second)
 
 pair-returns-4 : (t : ℕ) → pair-lts.Need-returns-4 (
   broken-reads.Asked,
@@ -500,10 +560,18 @@ pair-returns-4 : (t : ℕ) → pair-lts.Need-returns-4 (
   close-reads.Learnt,
 ) (pair-at t) pair.Post
 unfolding opened closed
-pair-returns-4 t c = λ u y. let e = c .before .before .before .before .before .before .before .before .before .before .before .before .before .before .pre .1 .1 in let d = c .before .before .before .before .before .before .before .before .before .before .before .before .if1 .left in
-    let a = c .before .before .before .before .before .before .before .before .before .before .node .ensures u (ready-first y e d) in let k = sym (c .before .before .before .before .before .before .before .before .before .sign .ensures) ∙ c .before .before .before .before .before .before .before .before .if2 .left in
-    let b = c .before .before .before .before .before .node2 .ensures u (ready-second y e d a k) in
-    inl (took-pair y e d a k b (sym (c .before .before .before .before .sign2 .ensures) ∙ c .before .before .before .if3 .left) (ap (λ (l : List ℕ). set l 8 (getD l 8 0 + 1)) (c .before .close .ensures)))
+pair-returns-4 t c = let at-if3 = c .before .before .before in
+    let at-sign2 = c .before .before .before .before in
+    let at-node2 = c .before .before .before .before .before in
+    let at-if2 = c .before .before .before .before .before .before .before .before in
+    let at-sign = c .before .before .before .before .before .before .before .before .before in
+    let at-node = c .before .before .before .before .before .before .before .before .before .before in
+    let at-if1 = c .before .before .before .before .before .before .before .before .before .before .before .before in
+    let start = c .before .before .before .before .before .before .before .before .before .before .before .before .before .before in
+    λ u y. let e = start .pre .1 .1 in let d = at-if1 .if1 .left in
+    let a = at-node .node .ensures u (ready-first y e d) in let k = sym (at-sign .sign .ensures) ∙ at-if2 .if2 .left in
+    let b = at-node2 .node2 .ensures u (ready-second y e d a k) in
+    inl (took-pair y e d a k b (sym (at-sign2 .sign2 .ensures) ∙ at-if3 .if3 .left) (ap (λ (l : List ℕ). set l 8 (getD l 8 0 + 1)) (c .before .close .ensures)))
 
 pub +node+pair-spec : {M : Type 1} → statement M
 +node+pair-spec = close μ-node μ-pair (λ t. node-lts.spec (

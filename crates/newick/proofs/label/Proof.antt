@@ -34,7 +34,12 @@ leaf-requires : tie.Need-leaf-requires
 leaf-requires c κs = search needs
 
 returns : tie.Need-returns
-returns c = λ t same. labelled-stop (c .before .before .before .before .before .args .s .now) t same _ (digits-one (c .before .before .before .before .before .args .s .now) t same _ _ _ (c .before .before .before .before .before .pre .1) (ap isDigit (sym (c .before .before .before .before .before .pre .1)) ∙ digit-in _ (omega (arith, c .before .before .before .before .before .pre .2)) (c .before .before .before .before .before .pre .3)) (λ q. omega (arith, c .before .before .before .before .before .pre .2)) refl) (omega arith) (omega (arith, c .before .before .before .before .before .pre .3)) (c .before .before .before .before .sign .ensures) (sym (c .before .before .before .digit .ensures) ∙ not-true _ (c .before .before .if1 .taken)) (c .leaf .ensures)
+returns c = let at-digit = c .before .before .before in
+    let at-sign = c .before .before .before .before in
+    let start = c .before .before .before .before .before in
+    λ t same.
+    let one = digits-one (start .args .s .now) t same _ _ _ (start .pre .1) (ap isDigit (sym (start .pre .1)) ∙ digit-in _ (omega (arith, start .pre .2)) (start .pre .3)) (λ q. omega (arith, start .pre .2)) refl in
+    labelled-stop (start .args .s .now) t same _ one (omega arith) (omega (arith, start .pre .3)) (at-sign .sign .ensures) (sym (at-digit .digit .ensures) ∙ not-true _ (c .before .before .if1 .taken)) (c .leaf .ensures)
 
 mul-x : tie.Need-mul-x
 mul-x c = search needs
@@ -67,7 +72,17 @@ leaf-requires-2 : tie.Need-leaf-requires-2
 leaf-requires-2 c κs = search needs
 
 returns-2 : tie.Need-returns-2
-returns-2 c = λ t same. labelled-stop (c .before .before .before .before .before .before .before .before .args .s .now) t same _ (digits-more (c .before .before .before .before .before .before .before .before .args .s .now) t same _ (10 * c .before .before .before .before .before .before .before .before .args .c + c .before .before .before .before .before .before .before .sign .result - 528) (digits-one (c .before .before .before .before .before .before .before .before .args .s .now) t same _ _ _ (c .before .before .before .before .before .before .before .before .pre .1) (ap isDigit (sym (c .before .before .before .before .before .before .before .before .pre .1)) ∙ digit-in _ (omega (arith, c .before .before .before .before .before .before .before .before .pre .2)) (c .before .before .before .before .before .before .before .before .pre .3)) (λ q. omega (arith, c .before .before .before .before .before .before .before .before .pre .2)) refl) (c .before .before .before .before .before .before .before .sign .ensures) (sym (c .before .before .before .before .before .before .digit .ensures) ∙ not-false _ (c .before .before .before .before .before .if1 .left)) (omega (arith, c .before .before .before .before .before .before .before .before .pre .2, digit-range _ (sym (c .before .before .before .before .before .before .digit .ensures) ∙ not-false _ (c .before .before .before .before .before .if1 .left))))) (omega arith) (omega (arith, c .before .before .before .before .before .before .before .before .pre .3, digit-range _ (sym (c .before .before .before .before .before .before .digit .ensures) ∙ not-false _ (c .before .before .before .before .before .if1 .left)))) (c .before .before .before .before .sign2 .ensures) (sym (c .before .before .before .digit2 .ensures) ∙ not-true _ (c .before .before .if2 .taken)) (c .leaf2 .ensures)
+returns-2 c = let at-digit2 = c .before .before .before in
+    let at-sign2 = c .before .before .before .before in
+    let at-if1 = c .before .before .before .before .before in
+    let at-digit = c .before .before .before .before .before .before in
+    let at-sign = c .before .before .before .before .before .before .before in
+    let start = c .before .before .before .before .before .before .before .before in
+    λ t same.
+    let first-digit = sym (at-digit .digit .ensures) ∙ not-false _ (at-if1 .if1 .left) in
+    let one = digits-one (start .args .s .now) t same _ _ _ (start .pre .1) (ap isDigit (sym (start .pre .1)) ∙ digit-in _ (omega (arith, start .pre .2)) (start .pre .3)) (λ q. omega (arith, start .pre .2)) refl in
+    let two = digits-more (start .args .s .now) t same _ (10 * start .args .c + at-sign .sign .result - 528) one (at-sign .sign .ensures) first-digit (omega (arith, start .pre .2, digit-range _ first-digit)) in
+    labelled-stop (start .args .s .now) t same _ two (omega arith) (omega (arith, start .pre .3, digit-range _ first-digit)) (at-sign2 .sign2 .ensures) (sym (at-digit2 .digit2 .ensures) ∙ not-true _ (c .before .before .if2 .taken)) (c .leaf2 .ensures)
 
 mul-y : tie.Need-mul-y
 mul-y c = search needs
@@ -91,7 +106,12 @@ mul-leaf-2 : tie.Need-mul-leaf-2
 mul-leaf-2 c = search needs
 
 sub-leaf-3 : tie.Need-sub-leaf-3
-sub-leaf-3 c = omega (arith, c .before .before .before .before .before .before .before .before .before .before .pre .2, digit-range _ (sym (c .before .before .before .before .before .before .before .before .digit .ensures) ∙ not-false _ (c .before .before .before .before .before .before .before .if1 .left)), digit-range _ (sym (c .before .before .before .before .before .digit2 .ensures) ∙ not-false _ (c .before .before .before .before .if2 .left)))
+sub-leaf-3 c = let at-if2 = c .before .before .before .before in
+    let at-digit2 = c .before .before .before .before .before in
+    let at-if1 = c .before .before .before .before .before .before .before in
+    let at-digit = c .before .before .before .before .before .before .before .before in
+    let start = c .before .before .before .before .before .before .before .before .before .before in
+    omega (arith, start .pre .2, digit-range _ (sym (at-digit .digit .ensures) ∙ not-false _ (at-if1 .if1 .left)), digit-range _ (sym (at-digit2 .digit2 .ensures) ∙ not-false _ (at-if2 .if2 .left)))
 
 add-leaf-3 : tie.Need-add-leaf-3
 add-leaf-3 c = search needs
@@ -100,7 +120,22 @@ leaf-requires-3 : tie.Need-leaf-requires-3
 leaf-requires-3 c κs = search needs
 
 returns-3 : tie.Need-returns-3
-returns-3 c = λ t same. labelled-stop (c .before .before .before .before .before .before .before .before .before .before .before .args .s .now) t same _ (digits-more (c .before .before .before .before .before .before .before .before .before .before .before .args .s .now) t same _ (10 * (10 * c .before .before .before .before .before .before .before .before .before .before .before .args .c + c .before .before .before .before .before .before .before .before .before .before .sign .result) + c .before .before .before .before .before .before .before .sign2 .result - 5328) (digits-more (c .before .before .before .before .before .before .before .before .before .before .before .args .s .now) t same _ (10 * c .before .before .before .before .before .before .before .before .before .before .before .args .c + c .before .before .before .before .before .before .before .before .before .before .sign .result - 528) (digits-one (c .before .before .before .before .before .before .before .before .before .before .before .args .s .now) t same _ _ _ (c .before .before .before .before .before .before .before .before .before .before .before .pre .1) (ap isDigit (sym (c .before .before .before .before .before .before .before .before .before .before .before .pre .1)) ∙ digit-in _ (omega (arith, c .before .before .before .before .before .before .before .before .before .before .before .pre .2)) (c .before .before .before .before .before .before .before .before .before .before .before .pre .3)) (λ q. omega (arith, c .before .before .before .before .before .before .before .before .before .before .before .pre .2)) refl) (c .before .before .before .before .before .before .before .before .before .before .sign .ensures) (sym (c .before .before .before .before .before .before .before .before .before .digit .ensures) ∙ not-false _ (c .before .before .before .before .before .before .before .before .if1 .left)) (omega (arith, c .before .before .before .before .before .before .before .before .before .before .before .pre .2, digit-range _ (sym (c .before .before .before .before .before .before .before .before .before .digit .ensures) ∙ not-false _ (c .before .before .before .before .before .before .before .before .if1 .left))))) (c .before .before .before .before .before .before .before .sign2 .ensures) (sym (c .before .before .before .before .before .before .digit2 .ensures) ∙ not-false _ (c .before .before .before .before .before .if2 .left)) (omega (arith, c .before .before .before .before .before .before .before .before .before .before .before .pre .2, digit-range _ (sym (c .before .before .before .before .before .before .before .before .before .digit .ensures) ∙ not-false _ (c .before .before .before .before .before .before .before .before .if1 .left)), digit-range _ (sym (c .before .before .before .before .before .before .digit2 .ensures) ∙ not-false _ (c .before .before .before .before .before .if2 .left))))) (omega arith) (omega (arith, c .before .before .before .before .before .before .before .before .before .before .before .pre .3, digit-range _ (sym (c .before .before .before .before .before .before .before .before .before .digit .ensures) ∙ not-false _ (c .before .before .before .before .before .before .before .before .if1 .left)), digit-range _ (sym (c .before .before .before .before .before .before .digit2 .ensures) ∙ not-false _ (c .before .before .before .before .before .if2 .left)))) (c .before .before .before .before .sign3 .ensures) (sym (c .before .before .before .digit3 .ensures) ∙ not-true _ (c .before .before .if3 .taken)) (c .leaf3 .ensures)
+returns-3 c = let at-digit3 = c .before .before .before in
+    let at-sign3 = c .before .before .before .before in
+    let at-if2 = c .before .before .before .before .before in
+    let at-digit2 = c .before .before .before .before .before .before in
+    let at-sign2 = c .before .before .before .before .before .before .before in
+    let at-if1 = c .before .before .before .before .before .before .before .before in
+    let at-digit = c .before .before .before .before .before .before .before .before .before in
+    let at-sign = c .before .before .before .before .before .before .before .before .before .before in
+    let start = c .before .before .before .before .before .before .before .before .before .before .before in
+    λ t same.
+    let first-digit = sym (at-digit .digit .ensures) ∙ not-false _ (at-if1 .if1 .left) in
+    let second-digit = sym (at-digit2 .digit2 .ensures) ∙ not-false _ (at-if2 .if2 .left) in
+    let one = digits-one (start .args .s .now) t same _ _ _ (start .pre .1) (ap isDigit (sym (start .pre .1)) ∙ digit-in _ (omega (arith, start .pre .2)) (start .pre .3)) (λ q. omega (arith, start .pre .2)) refl in
+    let two = digits-more (start .args .s .now) t same _ (10 * start .args .c + at-sign .sign .result - 528) one (at-sign .sign .ensures) first-digit (omega (arith, start .pre .2, digit-range _ first-digit)) in
+    let three = digits-more (start .args .s .now) t same _ (10 * (10 * start .args .c + at-sign .sign .result) + at-sign2 .sign2 .result - 5328) two (at-sign2 .sign2 .ensures) second-digit (omega (arith, start .pre .2, digit-range _ first-digit, digit-range _ second-digit)) in
+    labelled-stop (start .args .s .now) t same _ three (omega arith) (omega (arith, start .pre .3, digit-range _ first-digit, digit-range _ second-digit)) (at-sign3 .sign3 .ensures) (sym (at-digit3 .digit3 .ensures) ∙ not-true _ (c .before .before .if3 .taken)) (c .leaf3 .ensures)
 
 mul-leaf-3 : tie.Need-mul-leaf-3
 mul-leaf-3 c = search needs
@@ -115,7 +150,12 @@ mul-leaf-4 : tie.Need-mul-leaf-4
 mul-leaf-4 c = search needs
 
 sub-leaf-4 : tie.Need-sub-leaf-4
-sub-leaf-4 c = omega (arith, c .before .before .before .before .before .before .before .before .before .before .pre .2, digit-range _ (sym (c .before .before .before .before .before .before .before .before .digit .ensures) ∙ not-false _ (c .before .before .before .before .before .before .before .if1 .left)), digit-range _ (sym (c .before .before .before .before .before .digit2 .ensures) ∙ not-false _ (c .before .before .before .before .if2 .left)), digit-range _ (sym (c .before .before .digit3 .ensures) ∙ not-false _ (c .before .if3 .left)))
+sub-leaf-4 c = let at-if2 = c .before .before .before .before in
+    let at-digit2 = c .before .before .before .before .before in
+    let at-if1 = c .before .before .before .before .before .before .before in
+    let at-digit = c .before .before .before .before .before .before .before .before in
+    let start = c .before .before .before .before .before .before .before .before .before .before in
+    omega (arith, start .pre .2, digit-range _ (sym (at-digit .digit .ensures) ∙ not-false _ (at-if1 .if1 .left)), digit-range _ (sym (at-digit2 .digit2 .ensures) ∙ not-false _ (at-if2 .if2 .left)), digit-range _ (sym (c .before .before .digit3 .ensures) ∙ not-false _ (c .before .if3 .left)))
 
 add-leaf-5 : tie.Need-add-leaf-5
 add-leaf-5 c = search needs
@@ -124,7 +164,25 @@ leaf-requires-4 : tie.Need-leaf-requires-4
 leaf-requires-4 c κs = search needs
 
 returns-4 : tie.Need-returns-4
-returns-4 c = λ t same. labelled-full (digits-more (c .before .before .before .before .before .before .before .before .before .before .before .args .s .now) t same _ _ (digits-more (c .before .before .before .before .before .before .before .before .before .before .before .args .s .now) t same _ (10 * (10 * c .before .before .before .before .before .before .before .before .before .before .before .args .c + c .before .before .before .before .before .before .before .before .before .before .sign .result) + c .before .before .before .before .before .before .before .sign2 .result - 5328) (digits-more (c .before .before .before .before .before .before .before .before .before .before .before .args .s .now) t same _ (10 * c .before .before .before .before .before .before .before .before .before .before .before .args .c + c .before .before .before .before .before .before .before .before .before .before .sign .result - 528) (digits-one (c .before .before .before .before .before .before .before .before .before .before .before .args .s .now) t same _ _ _ (c .before .before .before .before .before .before .before .before .before .before .before .pre .1) (ap isDigit (sym (c .before .before .before .before .before .before .before .before .before .before .before .pre .1)) ∙ digit-in _ (omega (arith, c .before .before .before .before .before .before .before .before .before .before .before .pre .2)) (c .before .before .before .before .before .before .before .before .before .before .before .pre .3)) (λ q. omega (arith, c .before .before .before .before .before .before .before .before .before .before .before .pre .2)) refl) (c .before .before .before .before .before .before .before .before .before .before .sign .ensures) (sym (c .before .before .before .before .before .before .before .before .before .digit .ensures) ∙ not-false _ (c .before .before .before .before .before .before .before .before .if1 .left)) (omega (arith, c .before .before .before .before .before .before .before .before .before .before .before .pre .2, digit-range _ (sym (c .before .before .before .before .before .before .before .before .before .digit .ensures) ∙ not-false _ (c .before .before .before .before .before .before .before .before .if1 .left))))) (c .before .before .before .before .before .before .before .sign2 .ensures) (sym (c .before .before .before .before .before .before .digit2 .ensures) ∙ not-false _ (c .before .before .before .before .before .if2 .left)) (omega (arith, c .before .before .before .before .before .before .before .before .before .before .before .pre .2, digit-range _ (sym (c .before .before .before .before .before .before .before .before .before .digit .ensures) ∙ not-false _ (c .before .before .before .before .before .before .before .before .if1 .left)), digit-range _ (sym (c .before .before .before .before .before .before .digit2 .ensures) ∙ not-false _ (c .before .before .before .before .before .if2 .left))))) (c .before .before .before .before .sign3 .ensures) (sym (c .before .before .before .digit3 .ensures) ∙ not-false _ (c .before .before .if3 .left)) (omega (arith, c .before .before .before .before .before .before .before .before .before .before .before .pre .2, digit-range _ (sym (c .before .before .before .before .before .before .before .before .before .digit .ensures) ∙ not-false _ (c .before .before .before .before .before .before .before .before .if1 .left)), digit-range _ (sym (c .before .before .before .before .before .before .digit2 .ensures) ∙ not-false _ (c .before .before .before .before .before .if2 .left)), digit-range _ (sym (c .before .before .before .digit3 .ensures) ∙ not-false _ (c .before .before .if3 .left))))) (omega (arith, c .before .before .before .before .before .before .before .before .before .before .before .pre .3, digit-range _ (sym (c .before .before .before .before .before .before .before .before .before .digit .ensures) ∙ not-false _ (c .before .before .before .before .before .before .before .before .if1 .left)), digit-range _ (sym (c .before .before .before .before .before .before .digit2 .ensures) ∙ not-false _ (c .before .before .before .before .before .if2 .left)), digit-range _ (sym (c .before .before .before .digit3 .ensures) ∙ not-false _ (c .before .before .if3 .left)))) (c .leaf4 .ensures)
+returns-4 c = let at-digit3 = c .before .before .before in
+    let at-sign3 = c .before .before .before .before in
+    let at-if2 = c .before .before .before .before .before in
+    let at-digit2 = c .before .before .before .before .before .before in
+    let at-sign2 = c .before .before .before .before .before .before .before in
+    let at-if1 = c .before .before .before .before .before .before .before .before in
+    let at-digit = c .before .before .before .before .before .before .before .before .before in
+    let at-sign = c .before .before .before .before .before .before .before .before .before .before in
+    let start = c .before .before .before .before .before .before .before .before .before .before .before in
+    λ t same.
+    let first-digit = sym (at-digit .digit .ensures) ∙ not-false _ (at-if1 .if1 .left) in
+    let second-digit = sym (at-digit2 .digit2 .ensures) ∙ not-false _ (at-if2 .if2 .left) in
+    let third-digit = sym (at-digit3 .digit3 .ensures) ∙ not-false _ (c .before .before .if3 .left) in
+    let one = digits-one (start .args .s .now) t same _ _ _ (start .pre .1) (ap isDigit (sym (start .pre .1)) ∙ digit-in _ (omega (arith, start .pre .2)) (start .pre .3)) (λ q. omega (arith, start .pre .2)) refl in
+    let two = digits-more (start .args .s .now) t same _ (10 * start .args .c + at-sign .sign .result - 528) one (at-sign .sign .ensures) first-digit (omega (arith, start .pre .2, digit-range _ first-digit)) in
+    let three = digits-more (start .args .s .now) t same _ (10 * (10 * start .args .c + at-sign .sign .result) + at-sign2 .sign2 .result - 5328) two (at-sign2 .sign2 .ensures) second-digit (omega (arith, start .pre .2, digit-range _ first-digit, digit-range _ second-digit)) in
+    let four = digits-more (start .args .s .now) t same _ (10 * (10 * (10 * start .args .c + at-sign .sign .result) + at-sign2 .sign2 .result) + at-sign3 .sign3 .result - 53328)
+    three (at-sign3 .sign3 .ensures) third-digit (omega (arith, start .pre .2, digit-range _ first-digit, digit-range _ second-digit, digit-range _ third-digit)) in
+    labelled-full four (omega (arith, start .pre .3, digit-range _ first-digit, digit-range _ second-digit, digit-range _ third-digit)) (c .leaf4 .ensures)
 
 pub label-spec : {M : Type 1} → statement M
 label-spec =

@@ -38,7 +38,11 @@ same-length : tie.Need-same-length Inv-loop μ-loop
 same-length c = search needs
 
 returns : tie.Need-returns Inv-loop μ-loop
-returns c = look-large (c .before .before .before .before .before .before .before .loop .inv) (c .before .before .before .before .before .before .loop-test .taken) (sym (c .before .before .before .before .digit .ensures) ∙ c .before .before .before .if1 .taken) (c .before .before .next-start .ensures) (c .before .next-number .ensures) (c .if2 .taken)
+returns c = let at-if1 = c .before .before .before in
+    let at-digit = c .before .before .before .before in
+    let at-loop-test = c .before .before .before .before .before .before in
+    let at-loop = c .before .before .before .before .before .before .before in
+    look-large (at-loop .loop .inv) (at-loop-test .loop-test .taken) (sym (at-digit .digit .ensures) ∙ at-if1 .if1 .taken) (c .before .before .next-start .ensures) (c .before .next-number .ensures) (c .if2 .taken)
 
 slice-read-if4 : tie.Need-slice-read-if4 Inv-loop μ-loop
 slice-read-if4 c = let L = c .before .before .before .before .before .before .loop .inv in omega (arith, number-small L (c .before .before .before .before .before .loop-test .taken) (sym (c .before .before .before .digit .ensures) ∙ c .before .before .if1 .left) (c .before .if3 .taken), L .room)
@@ -47,10 +51,18 @@ same-length-2 : tie.Need-same-length-2 Inv-loop μ-loop
 same-length-2 c = search needs
 
 returns-2 : tie.Need-returns-2 Inv-loop μ-loop
-returns-2 c = look-used (c .before .before .before .before .before .before .before .loop .inv) (c .before .before .before .before .before .before .loop-test .taken) (sym (c .before .before .before .before .digit .ensures) ∙ c .before .before .before .if1 .left) (c .before .before .if3 .taken) (c .if4 .taken)
+returns-2 c = let at-if1 = c .before .before .before in
+    let at-digit = c .before .before .before .before in
+    let at-loop-test = c .before .before .before .before .before .before in
+    let at-loop = c .before .before .before .before .before .before .before in
+    look-used (at-loop .loop .inv) (at-loop-test .loop-test .taken) (sym (at-digit .digit .ensures) ∙ at-if1 .if1 .left) (c .before .before .if3 .taken) (c .if4 .taken)
 
 slice-write-used : tie.Need-slice-write-used Inv-loop μ-loop
-slice-write-used c = let L = c .before .before .before .before .before .before .before .loop .inv in omega (arith, number-small L (c .before .before .before .before .before .before .loop-test .taken) (sym (c .before .before .before .before .digit .ensures) ∙ c .before .before .before .if1 .left) (c .before .before .if3 .taken), L .room)
+slice-write-used c = let at-if1 = c .before .before .before in
+    let at-digit = c .before .before .before .before in
+    let at-loop-test = c .before .before .before .before .before .before in
+    let at-loop = c .before .before .before .before .before .before .before in
+    let L = at-loop .loop .inv in omega (arith, number-small L (at-loop-test .loop-test .taken) (sym (at-digit .digit .ensures) ∙ at-if1 .if1 .left) (c .before .before .if3 .taken), L .room)
 
 add-at : tie.Need-add-at Inv-loop μ-loop
 add-at c = search needs

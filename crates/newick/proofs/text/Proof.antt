@@ -24,46 +24,99 @@ element-write-m-2 : tie.Need-element-write-m-2
 element-write-m-2 c = search needs
 
 node-requires : tie.Need-node-requires
-node-requires c κs = (c .before .before .before .before .before .args .s .now, (ready-start {signs = c .before .before .copy .last .1 .0} {s = c .before .before .before .before .before .args .s .now} (c .before .before .before .before .before .args .m .now) (c .before .before .copy .ensures) (c .before .before .before .before .before .pre .0) (c .before .before .before .before .before .pre .1)))
+node-requires c κs = let start = c .before .before .before .before .before in
+    (start .args .s .now, (ready-start {signs = c .before .before .copy .last .1 .0} {s = start .args .s .now} (start .args .m .now) (c .before .before .copy .ensures) (start .pre .0) (start .pre .1)))
 
 sign-requires : tie.Need-sign-requires
-sign-requires c κs = answers-place (c .before .before .before .before .before .before .before .pre .0) (c .before .node .ensures (c .before .before .before .before .before .before .before .args .s .now) (ready-start {signs = c .before .before .before .before .copy .last .1 .0} {s = c .before .before .before .before .before .before .before .args .s .now} (c .before .before .before .before .before .before .before .args .m .now) (c .before .before .before .before .copy .ensures) (c .before .before .before .before .before .before .before .pre .0) (c .before .before .before .before .before .before .before .pre .1)))
+sign-requires c κs = let at-copy = c .before .before .before .before in
+    let start = c .before .before .before .before .before .before .before in
+    answers-place (start .pre .0) (c .before .node .ensures (start .args .s .now) (ready-start {signs = at-copy .copy .last .1 .0} {s = start .args .s .now} (start .args .m .now) (at-copy .copy .ensures) (start .pre .0) (start .pre .1)))
 
 broken-requires : tie.Need-broken-requires
-broken-requires c κs = answers-place (c .before .before .before .before .before .before .before .before .before .before .pre .0) (c .before .before .before .before .node .ensures (c .before .before .before .before .before .before .before .before .before .before .args .s .now) (ready-start {signs = c .before .before .before .before .before .before .before .copy .last .1 .0} {s = c .before .before .before .before .before .before .before .before .before .before .args .s .now} (c .before .before .before .before .before .before .before .before .before .before .args .m .now) (c .before .before .before .before .before .before .before .copy .ensures) (c .before .before .before .before .before .before .before .before .before .before .pre .0) (c .before .before .before .before .before .before .before .before .before .before .pre .1)))
+broken-requires c κs = let at-node = c .before .before .before .before in
+    let at-copy = c .before .before .before .before .before .before .before in
+    let start = c .before .before .before .before .before .before .before .before .before .before in
+    answers-place (start .pre .0) (at-node .node .ensures (start .args .s .now) (ready-start {signs = at-copy .copy .last .1 .0} {s = start .args .s .now} (start .args .m .now) (at-copy .copy .ensures) (start .pre .0) (start .pre .1)))
 
 element-copy-out-t20 : tie.Need-element-copy-out-t20
 element-copy-out-t20 c = search needs
 
 cast-t16 : tie.Need-cast-t16
-cast-t16 c = omega (arith, broken-small (c .before .before .before .before .before .before .before .before .before .before .before .before .args .m .now) (c .before .before .before .before .before .before .before .before .before .before .before .before .pre .1) (ready-start {signs = c .before .before .before .before .before .before .before .before .before .copy .last .1 .0} {s = c .before .before .before .before .before .before .before .before .before .before .before .before .args .s .now} (c .before .before .before .before .before .before .before .before .before .before .before .before .args .m .now) (c .before .before .before .before .before .before .before .before .before .copy .ensures) (c .before .before .before .before .before .before .before .before .before .before .before .before .pre .0) (c .before .before .before .before .before .before .before .before .before .before .before .before .pre .1)) (c .before .before .before .before .before .before .node .ensures (c .before .before .before .before .before .before .before .before .before .before .before .before .args .s .now) (ready-start {signs = c .before .before .before .before .before .before .before .before .before .copy .last .1 .0} {s = c .before .before .before .before .before .before .before .before .before .before .before .before .args .s .now} (c .before .before .before .before .before .before .before .before .before .before .before .before .args .m .now) (c .before .before .before .before .before .before .before .before .before .copy .ensures) (c .before .before .before .before .before .before .before .before .before .before .before .before .pre .0) (c .before .before .before .before .before .before .before .before .before .before .before .before .pre .1))) (c .before .broken .ensures .1))
+cast-t16 c = let at-node = c .before .before .before .before .before .before in
+    let at-copy = c .before .before .before .before .before .before .before .before .before in
+    let start = c .before .before .before .before .before .before .before .before .before .before .before .before in
+    let ready = ready-start {signs = at-copy .copy .last .1 .0} {s = start .args .s .now} (start .args .m .now) (at-copy .copy .ensures) (start .pre .0) (start .pre .1) in
+    let answer = at-node .node .ensures (start .args .s .now) ready in
+    omega (arith, broken-small (start .args .m .now) (start .pre .1) ready answer (c .before .broken .ensures .1))
 
 returns : tie.Need-returns
-returns c = text-broken (c .before .before .before .before .before .before .before .before .before .before .before .before .args .m .now) (c .before .before .before .before .before .before .before .before .before .before .before .before .pre .1) (ready-start {signs = c .before .before .before .before .before .before .before .before .before .copy .last .1 .0} {s = c .before .before .before .before .before .before .before .before .before .before .before .before .args .s .now} (c .before .before .before .before .before .before .before .before .before .before .before .before .args .m .now) (c .before .before .before .before .before .before .before .before .before .copy .ensures) (c .before .before .before .before .before .before .before .before .before .before .before .before .pre .0) (c .before .before .before .before .before .before .before .before .before .before .before .before .pre .1)) (c .before .before .before .before .before .before .node .ensures (c .before .before .before .before .before .before .before .before .before .before .before .before .args .s .now) (ready-start {signs = c .before .before .before .before .before .before .before .before .before .copy .last .1 .0} {s = c .before .before .before .before .before .before .before .before .before .before .before .before .args .s .now} (c .before .before .before .before .before .before .before .before .before .before .before .before .args .m .now) (c .before .before .before .before .before .before .before .before .before .copy .ensures) (c .before .before .before .before .before .before .before .before .before .before .before .before .pre .0) (c .before .before .before .before .before .before .before .before .before .before .before .before .pre .1))) (λ q. c .before .before .before .if1 .taken (c .before .before .before .before .sign .ensures ∙ q)) (c .before .broken .ensures .1)
+returns c = let at-if1 = c .before .before .before in
+    let at-sign = c .before .before .before .before in
+    let at-node = c .before .before .before .before .before .before in
+    let at-copy = c .before .before .before .before .before .before .before .before .before in
+    let start = c .before .before .before .before .before .before .before .before .before .before .before .before in
+    let ready = ready-start {signs = at-copy .copy .last .1 .0} {s = start .args .s .now} (start .args .m .now) (at-copy .copy .ensures) (start .pre .0) (start .pre .1) in
+    let answer = at-node .node .ensures (start .args .s .now) ready in
+    text-broken (start .args .m .now) (start .pre .1) ready answer (λ q. at-if1 .if1 .taken (at-sign .sign .ensures ∙ q)) (c .before .broken .ensures .1)
 
 add-if2 : tie.Need-add-if2
-add-if2 c = omega (arith, answers-place (c .before .before .before .before .before .before .before .before .before .pre .0) (c .before .before .before .node .ensures (c .before .before .before .before .before .before .before .before .before .args .s .now) (ready-start {signs = c .before .before .before .before .before .before .copy .last .1 .0} {s = c .before .before .before .before .before .before .before .before .before .args .s .now} (c .before .before .before .before .before .before .before .before .before .args .m .now) (c .before .before .before .before .before .before .copy .ensures) (c .before .before .before .before .before .before .before .before .before .pre .0) (c .before .before .before .before .before .before .before .before .before .pre .1))))
+add-if2 c = let at-node = c .before .before .before in
+    let at-copy = c .before .before .before .before .before .before in
+    let start = c .before .before .before .before .before .before .before .before .before in
+    omega (arith, answers-place (start .pre .0) (at-node .node .ensures (start .args .s .now) (ready-start {signs = at-copy .copy .last .1 .0} {s = start .args .s .now} (start .args .m .now) (at-copy .copy .ensures) (start .pre .0) (start .pre .1))))
 
 add-t23 : tie.Need-add-t23
-add-t23 c = omega (arith, answers-place (c .before .before .before .before .before .before .before .before .before .before .pre .0) (c .before .before .before .before .node .ensures (c .before .before .before .before .before .before .before .before .before .before .args .s .now) (ready-start {signs = c .before .before .before .before .before .before .before .copy .last .1 .0} {s = c .before .before .before .before .before .before .before .before .before .before .args .s .now} (c .before .before .before .before .before .before .before .before .before .before .args .m .now) (c .before .before .before .before .before .before .before .copy .ensures) (c .before .before .before .before .before .before .before .before .before .before .pre .0) (c .before .before .before .before .before .before .before .before .before .before .pre .1))))
+add-t23 c = let at-node = c .before .before .before .before in
+    let at-copy = c .before .before .before .before .before .before .before in
+    let start = c .before .before .before .before .before .before .before .before .before .before in
+    omega (arith, answers-place (start .pre .0) (at-node .node .ensures (start .args .s .now) (ready-start {signs = at-copy .copy .last .1 .0} {s = start .args .s .now} (start .args .m .now) (at-copy .copy .ensures) (start .pre .0) (start .pre .1))))
 
 returns-2 : tie.Need-returns-2
-returns-2 c = text-longer (c .before .before .before .before .before .before .before .before .before .before .args .m .now) (c .before .before .before .before .before .before .before .before .before .before .pre .1) (ready-start {signs = c .before .before .before .before .before .before .before .copy .last .1 .0} {s = c .before .before .before .before .before .before .before .before .before .before .args .s .now} (c .before .before .before .before .before .before .before .before .before .before .args .m .now) (c .before .before .before .before .before .before .before .copy .ensures) (c .before .before .before .before .before .before .before .before .before .before .pre .0) (c .before .before .before .before .before .before .before .before .before .before .pre .1)) (c .before .before .before .before .node .ensures (c .before .before .before .before .before .before .before .before .before .before .args .s .now) (ready-start {signs = c .before .before .before .before .before .before .before .copy .last .1 .0} {s = c .before .before .before .before .before .before .before .before .before .before .args .s .now} (c .before .before .before .before .before .before .before .before .before .before .args .m .now) (c .before .before .before .before .before .before .before .copy .ensures) (c .before .before .before .before .before .before .before .before .before .before .pre .0) (c .before .before .before .before .before .before .before .before .before .before .pre .1))) (sym (c .before .before .sign .ensures) ∙ c .before .if1 .left) (c .if2 .taken)
+returns-2 c = let at-node = c .before .before .before .before in
+    let at-copy = c .before .before .before .before .before .before .before in
+    let start = c .before .before .before .before .before .before .before .before .before .before in
+    let ready = ready-start {signs = at-copy .copy .last .1 .0} {s = start .args .s .now} (start .args .m .now) (at-copy .copy .ensures) (start .pre .0) (start .pre .1) in
+    let answer = at-node .node .ensures (start .args .s .now) ready in
+    text-longer (start .args .m .now) (start .pre .1) ready answer (sym (c .before .before .sign .ensures) ∙ c .before .if1 .left) (c .if2 .taken)
 
 element-copy-out-t26 : tie.Need-element-copy-out-t26
 element-copy-out-t26 c = search needs
 
 sub-t27 : tie.Need-sub-t27
-sub-t27 c = omega (arith, end-place {signs = c .before .before .before .before .before .before .before .before .copy .last .1 .0} {s = c .before .before .before .before .before .before .before .before .before .before .before .args .s .now} (c .before .before .before .before .before .before .before .before .before .before .before .args .m .now) (c .before .before .before .before .before .before .before .before .before .before .before .pre .1) (ready-start {signs = c .before .before .before .before .before .before .before .before .copy .last .1 .0} {s = c .before .before .before .before .before .before .before .before .before .before .before .args .s .now} (c .before .before .before .before .before .before .before .before .before .before .before .args .m .now) (c .before .before .before .before .before .before .before .before .copy .ensures) (c .before .before .before .before .before .before .before .before .before .before .before .pre .0) (c .before .before .before .before .before .before .before .before .before .before .before .pre .1)) (c .before .before .before .before .before .node .ensures (c .before .before .before .before .before .before .before .before .before .before .before .args .s .now) (ready-start {signs = c .before .before .before .before .before .before .before .before .copy .last .1 .0} {s = c .before .before .before .before .before .before .before .before .before .before .before .args .s .now} (c .before .before .before .before .before .before .before .before .before .before .before .args .m .now) (c .before .before .before .before .before .before .before .before .copy .ensures) (c .before .before .before .before .before .before .before .before .before .before .before .pre .0) (c .before .before .before .before .before .before .before .before .before .before .before .pre .1))) (sym (c .before .before .before .sign .ensures) ∙ c .before .before .if1 .left))
+sub-t27 c = let at-sign = c .before .before .before in
+    let at-node = c .before .before .before .before .before in
+    let at-copy = c .before .before .before .before .before .before .before .before in
+    let start = c .before .before .before .before .before .before .before .before .before .before .before in
+    let ready = ready-start {signs = at-copy .copy .last .1 .0} {s = start .args .s .now} (start .args .m .now) (at-copy .copy .ensures) (start .pre .0) (start .pre .1) in
+    let answer = at-node .node .ensures (start .args .s .now) ready in
+    omega (arith, end-place {signs = at-copy .copy .last .1 .0} {s = start .args .s .now} (start .args .m .now) (start .pre .1) ready answer (sym (at-sign .sign .ensures) ∙ c .before .before .if1 .left))
 
 cast-t21 : tie.Need-cast-t21
-cast-t21 c = omega (arith, end-place {signs = c .before .before .before .before .before .before .before .before .copy .last .1 .0} {s = c .before .before .before .before .before .before .before .before .before .before .before .args .s .now} (c .before .before .before .before .before .before .before .before .before .before .before .args .m .now) (c .before .before .before .before .before .before .before .before .before .before .before .pre .1) (ready-start {signs = c .before .before .before .before .before .before .before .before .copy .last .1 .0} {s = c .before .before .before .before .before .before .before .before .before .before .before .args .s .now} (c .before .before .before .before .before .before .before .before .before .before .before .args .m .now) (c .before .before .before .before .before .before .before .before .copy .ensures) (c .before .before .before .before .before .before .before .before .before .before .before .pre .0) (c .before .before .before .before .before .before .before .before .before .before .before .pre .1)) (c .before .before .before .before .before .node .ensures (c .before .before .before .before .before .before .before .before .before .before .before .args .s .now) (ready-start {signs = c .before .before .before .before .before .before .before .before .copy .last .1 .0} {s = c .before .before .before .before .before .before .before .before .before .before .before .args .s .now} (c .before .before .before .before .before .before .before .before .before .before .before .args .m .now) (c .before .before .before .before .before .before .before .before .copy .ensures) (c .before .before .before .before .before .before .before .before .before .before .before .pre .0) (c .before .before .before .before .before .before .before .before .before .before .before .pre .1))) (sym (c .before .before .before .sign .ensures) ∙ c .before .before .if1 .left))
+cast-t21 c = let at-sign = c .before .before .before in
+    let at-node = c .before .before .before .before .before in
+    let at-copy = c .before .before .before .before .before .before .before .before in
+    let start = c .before .before .before .before .before .before .before .before .before .before .before in
+    let ready = ready-start {signs = at-copy .copy .last .1 .0} {s = start .args .s .now} (start .args .m .now) (at-copy .copy .ensures) (start .pre .0) (start .pre .1) in
+    let answer = at-node .node .ensures (start .args .s .now) ready in
+    omega (arith, end-place {signs = at-copy .copy .last .1 .0} {s = start .args .s .now} (start .args .m .now) (start .pre .1) ready answer (sym (at-sign .sign .ensures) ∙ c .before .before .if1 .left))
 
 add-t22 : tie.Need-add-t22
-add-t22 c = omega (arith, end-place {signs = c .before .before .before .before .before .before .before .before .copy .last .1 .0} {s = c .before .before .before .before .before .before .before .before .before .before .before .args .s .now} (c .before .before .before .before .before .before .before .before .before .before .before .args .m .now) (c .before .before .before .before .before .before .before .before .before .before .before .pre .1) (ready-start {signs = c .before .before .before .before .before .before .before .before .copy .last .1 .0} {s = c .before .before .before .before .before .before .before .before .before .before .before .args .s .now} (c .before .before .before .before .before .before .before .before .before .before .before .args .m .now) (c .before .before .before .before .before .before .before .before .copy .ensures) (c .before .before .before .before .before .before .before .before .before .before .before .pre .0) (c .before .before .before .before .before .before .before .before .before .before .before .pre .1)) (c .before .before .before .before .before .node .ensures (c .before .before .before .before .before .before .before .before .before .before .before .args .s .now) (ready-start {signs = c .before .before .before .before .before .before .before .before .copy .last .1 .0} {s = c .before .before .before .before .before .before .before .before .before .before .before .args .s .now} (c .before .before .before .before .before .before .before .before .before .before .before .args .m .now) (c .before .before .before .before .before .before .before .before .copy .ensures) (c .before .before .before .before .before .before .before .before .before .before .before .pre .0) (c .before .before .before .before .before .before .before .before .before .before .before .pre .1))) (sym (c .before .before .before .sign .ensures) ∙ c .before .before .if1 .left))
+add-t22 c = let at-sign = c .before .before .before in
+    let at-node = c .before .before .before .before .before in
+    let at-copy = c .before .before .before .before .before .before .before .before in
+    let start = c .before .before .before .before .before .before .before .before .before .before .before in
+    let ready = ready-start {signs = at-copy .copy .last .1 .0} {s = start .args .s .now} (start .args .m .now) (at-copy .copy .ensures) (start .pre .0) (start .pre .1) in
+    let answer = at-node .node .ensures (start .args .s .now) ready in
+    omega (arith, end-place {signs = at-copy .copy .last .1 .0} {s = start .args .s .now} (start .args .m .now) (start .pre .1) ready answer (sym (at-sign .sign .ensures) ∙ c .before .before .if1 .left))
 
 returns-3 : tie.Need-returns-3
-returns-3 c = text-took (c .before .before .before .before .before .before .before .before .before .before .before .args .m .now) (c .before .before .before .before .before .before .before .before .before .before .before .pre .1) (ready-start {signs = c .before .before .before .before .before .before .before .before .copy .last .1 .0} {s = c .before .before .before .before .before .before .before .before .before .before .before .args .s .now} (c .before .before .before .before .before .before .before .before .before .before .before .args .m .now) (c .before .before .before .before .before .before .before .before .copy .ensures) (c .before .before .before .before .before .before .before .before .before .before .before .pre .0) (c .before .before .before .before .before .before .before .before .before .before .before .pre .1)) (c .before .before .before .before .before .node .ensures (c .before .before .before .before .before .before .before .before .before .before .before .args .s .now) (ready-start {signs = c .before .before .before .before .before .before .before .before .copy .last .1 .0} {s = c .before .before .before .before .before .before .before .before .before .before .before .args .s .now} (c .before .before .before .before .before .before .before .before .before .before .before .args .m .now) (c .before .before .before .before .before .before .before .before .copy .ensures) (c .before .before .before .before .before .before .before .before .before .before .before .pre .0) (c .before .before .before .before .before .before .before .before .before .before .before .pre .1))) (sym (c .before .before .before .sign .ensures) ∙ c .before .before .if1 .left) (c .before .if2 .left) refl
+returns-3 c = let at-sign = c .before .before .before in
+    let at-node = c .before .before .before .before .before in
+    let at-copy = c .before .before .before .before .before .before .before .before in
+    let start = c .before .before .before .before .before .before .before .before .before .before .before in
+    let ready = ready-start {signs = at-copy .copy .last .1 .0} {s = start .args .s .now} (start .args .m .now) (at-copy .copy .ensures) (start .pre .0) (start .pre .1) in
+    let answer = at-node .node .ensures (start .args .s .now) ready in
+    text-took (start .args .m .now) (start .pre .1) ready answer (sym (at-sign .sign .ensures) ∙ c .before .before .if1 .left) (c .before .if2 .left) refl
 
 pub text-spec : {M : Type 1} → statement M
 text-spec =

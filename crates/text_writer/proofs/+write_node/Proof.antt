@@ -161,7 +161,8 @@ write-node-write-node-requires : (t : ℕ) → write-node-lts.Need-write-node-re
   write-node-below t,
   write-node.Post,
 ) (write-node-at t) write-node.Post
-write-node-write-node-requires t c κs = (omega (arith, left-child (c .before .before .before .before .pre .1 .3) (c .before .before .if1 .left)), ((c .before .before .before .before .pre .1 .0), (c .before .before .before .before .pre .1 .1), (c .before .before .before .before .pre .1 .2), first-room (c .before .before .before .before .pre .1 .3) (c .before .before .if1 .left)))
+write-node-write-node-requires t c κs = let start = c .before .before .before .before in
+    (omega (arith, left-child (start .pre .1 .3) (c .before .before .if1 .left)), ((start .pre .1 .0), (start .pre .1 .1), (start .pre .1 .2), first-room (start .pre .1 .3) (c .before .before .if1 .left)))
 
 write-node-element-write-text-2 : (t : ℕ) → write-node-lts.Need-element-write-text-2 (
   put-word-reads.Asked,
@@ -171,7 +172,9 @@ write-node-element-write-text-2 : (t : ℕ) → write-node-lts.Need-element-writ
   write-node-below t,
   write-node.Post,
 ) (write-node-at t) write-node.Post
-write-node-element-write-text-2 t c = comma-room (c .before .before .before .before .before .pre .1 .3) (c .before .before .before .if1 .left) (c .write-node .ensures (c .before .before .before .before .before .pre .1 .0) (c .before .before .before .before .before .pre .1 .1) (c .before .before .before .before .before .pre .1 .2) (first-room (c .before .before .before .before .before .pre .1 .3) (c .before .before .before .if1 .left)))
+write-node-element-write-text-2 t c = let at-if1 = c .before .before .before in
+    let start = c .before .before .before .before .before in
+    comma-room (start .pre .1 .3) (at-if1 .if1 .left) (c .write-node .ensures (start .pre .1 .0) (start .pre .1 .1) (start .pre .1 .2) (first-room (start .pre .1 .3) (at-if1 .if1 .left)))
 
 write-node-cast-write-node-2 : (t : ℕ) → write-node-lts.Need-cast-write-node-2 (
   put-word-reads.Asked,
@@ -191,7 +194,9 @@ write-node-add-write-node-2 : (t : ℕ) → write-node-lts.Need-add-write-node-2
   write-node-below t,
   write-node.Post,
 ) (write-node-at t) write-node.Post
-write-node-add-write-node-2 t c = omega (arith, comma-room (c .before .before .before .before .before .before .pre .1 .3) (c .before .before .before .before .if1 .left) (c .before .write-node .ensures (c .before .before .before .before .before .before .pre .1 .0) (c .before .before .before .before .before .before .pre .1 .1) (c .before .before .before .before .before .before .pre .1 .2) (first-room (c .before .before .before .before .before .before .pre .1 .3) (c .before .before .before .before .if1 .left))))
+write-node-add-write-node-2 t c = let at-if1 = c .before .before .before .before in
+    let start = c .before .before .before .before .before .before in
+    omega (arith, comma-room (start .pre .1 .3) (at-if1 .if1 .left) (c .before .write-node .ensures (start .pre .1 .0) (start .pre .1 .1) (start .pre .1 .2) (first-room (start .pre .1 .3) (at-if1 .if1 .left))))
 
 write-node-write-node-requires-2 : (t : ℕ) → write-node-lts.Need-write-node-requires-2 (
   put-word-reads.Asked,
@@ -201,7 +206,9 @@ write-node-write-node-requires-2 : (t : ℕ) → write-node-lts.Need-write-node-
   write-node-below t,
   write-node.Post,
 ) (write-node-at t) write-node.Post
-write-node-write-node-requires-2 t c κs = (omega (arith, right-child (c .before .before .before .before .before .before .pre .1 .3) (c .before .before .before .before .if1 .left)), ((c .before .before .before .before .before .before .pre .1 .0), (c .before .before .before .before .before .before .pre .1 .1), (c .before .before .before .before .before .before .pre .1 .2), second-room (c .before .before .before .before .before .before .pre .1 .3) (c .before .before .before .before .if1 .left) (c .before .write-node .ensures (c .before .before .before .before .before .before .pre .1 .0) (c .before .before .before .before .before .before .pre .1 .1) (c .before .before .before .before .before .before .pre .1 .2) (first-room (c .before .before .before .before .before .before .pre .1 .3) (c .before .before .before .before .if1 .left)))))
+write-node-write-node-requires-2 t c κs = let at-if1 = c .before .before .before .before in
+    let start = c .before .before .before .before .before .before in
+    (omega (arith, right-child (start .pre .1 .3) (at-if1 .if1 .left)), ((start .pre .1 .0), (start .pre .1 .1), (start .pre .1 .2), second-room (start .pre .1 .3) (at-if1 .if1 .left) (c .before .write-node .ensures (start .pre .1 .0) (start .pre .1 .1) (start .pre .1 .2) (first-room (start .pre .1 .3) (at-if1 .if1 .left)))))
 
 write-node-element-write-text-3 : (t : ℕ) → write-node-lts.Need-element-write-text-3 (
   put-word-reads.Asked,
@@ -211,7 +218,11 @@ write-node-element-write-text-3 : (t : ℕ) → write-node-lts.Need-element-writ
   write-node-below t,
   write-node.Post,
 ) (write-node-at t) write-node.Post
-write-node-element-write-text-3 t c = close-room (c .before .before .before .before .before .before .before .pre .1 .3) (c .before .before .before .before .before .if1 .left) (c .before .before .write-node .ensures (c .before .before .before .before .before .before .before .pre .1 .0) (c .before .before .before .before .before .before .before .pre .1 .1) (c .before .before .before .before .before .before .before .pre .1 .2) (first-room (c .before .before .before .before .before .before .before .pre .1 .3) (c .before .before .before .before .before .if1 .left))) (c .write-node2 .ensures (c .before .before .before .before .before .before .before .pre .1 .0) (c .before .before .before .before .before .before .before .pre .1 .1) (c .before .before .before .before .before .before .before .pre .1 .2) (second-room (c .before .before .before .before .before .before .before .pre .1 .3) (c .before .before .before .before .before .if1 .left) (c .before .before .write-node .ensures (c .before .before .before .before .before .before .before .pre .1 .0) (c .before .before .before .before .before .before .before .pre .1 .1) (c .before .before .before .before .before .before .before .pre .1 .2) (first-room (c .before .before .before .before .before .before .before .pre .1 .3) (c .before .before .before .before .before .if1 .left)))))
+write-node-element-write-text-3 t c = let at-if1 = c .before .before .before .before .before in
+    let start = c .before .before .before .before .before .before .before in
+    let first = c .before .before .write-node .ensures (start .pre .1 .0) (start .pre .1 .1) (start .pre .1 .2) (first-room (start .pre .1 .3) (at-if1 .if1 .left)) in
+    let second = c .write-node2 .ensures (start .pre .1 .0) (start .pre .1 .1) (start .pre .1 .2) (second-room (start .pre .1 .3) (at-if1 .if1 .left) first) in
+    close-room (start .pre .1 .3) (at-if1 .if1 .left) first second
 
 write-node-add-result-2 : (t : ℕ) → write-node-lts.Need-add-result-2 (
   put-word-reads.Asked,
@@ -221,7 +232,11 @@ write-node-add-result-2 : (t : ℕ) → write-node-lts.Need-add-result-2 (
   write-node-below t,
   write-node.Post,
 ) (write-node-at t) write-node.Post
-write-node-add-result-2 t c = omega (arith, close-room (c .before .before .before .before .before .before .before .pre .1 .3) (c .before .before .before .before .before .if1 .left) (c .before .before .write-node .ensures (c .before .before .before .before .before .before .before .pre .1 .0) (c .before .before .before .before .before .before .before .pre .1 .1) (c .before .before .before .before .before .before .before .pre .1 .2) (first-room (c .before .before .before .before .before .before .before .pre .1 .3) (c .before .before .before .before .before .if1 .left))) (c .write-node2 .ensures (c .before .before .before .before .before .before .before .pre .1 .0) (c .before .before .before .before .before .before .before .pre .1 .1) (c .before .before .before .before .before .before .before .pre .1 .2) (second-room (c .before .before .before .before .before .before .before .pre .1 .3) (c .before .before .before .before .before .if1 .left) (c .before .before .write-node .ensures (c .before .before .before .before .before .before .before .pre .1 .0) (c .before .before .before .before .before .before .before .pre .1 .1) (c .before .before .before .before .before .before .before .pre .1 .2) (first-room (c .before .before .before .before .before .before .before .pre .1 .3) (c .before .before .before .before .before .if1 .left))))))
+write-node-add-result-2 t c = let at-if1 = c .before .before .before .before .before in
+    let start = c .before .before .before .before .before .before .before in
+    let first = c .before .before .write-node .ensures (start .pre .1 .0) (start .pre .1 .1) (start .pre .1 .2) (first-room (start .pre .1 .3) (at-if1 .if1 .left)) in
+    let second = c .write-node2 .ensures (start .pre .1 .0) (start .pre .1 .1) (start .pre .1 .2) (second-room (start .pre .1 .3) (at-if1 .if1 .left) first) in
+    omega (arith, close-room (start .pre .1 .3) (at-if1 .if1 .left) first second)
 
 write-node-returns-2 : (t : ℕ) → write-node-lts.Need-returns-2 (
   put-word-reads.Asked,

@@ -42,8 +42,11 @@ add-longer-labels-2 : tie.Need-add-longer-labels-2
 add-longer-labels-2 c = search needs
 
 longer-labels-requires-2 : tie.Need-longer-labels-requires-2
-longer-labels-requires-2 c κs = let L = c .before .before .before .before .longer-labels .ensures in
-    (omega (arith, L .1), omega (arith, c .lesser2 .ensures, c .before .before .before .before .before .before .before .before .before .before .before .before .pre .0), omega arith, omega arith, L .0, word-three _ _ (λ h. reaches _ 10 _ _ (c .before .before .before .before .before .lesser .ensures) (L .2) (omega (arith, c .lesser2 .ensures))) (omega (arith, c .lesser2 .ensures)))
+longer-labels-requires-2 c κs = let at-longer-labels = c .before .before .before .before in
+    let at-lesser = c .before .before .before .before .before in
+    let start = c .before .before .before .before .before .before .before .before .before .before .before .before in
+    let L = at-longer-labels .longer-labels .ensures in
+    (omega (arith, L .1), omega (arith, c .lesser2 .ensures, start .pre .0), omega arith, omega arith, L .0, word-three _ _ (λ h. reaches _ 10 _ _ (at-lesser .lesser .ensures) (L .2) (omega (arith, c .lesser2 .ensures))) (omega (arith, c .lesser2 .ensures)))
 
 mul-longer-labels-3 : tie.Need-mul-longer-labels-3
 mul-longer-labels-3 c = search needs
@@ -55,8 +58,12 @@ sub-longer-labels : tie.Need-sub-longer-labels
 sub-longer-labels c = search needs
 
 longer-labels-requires-3 : tie.Need-longer-labels-requires-3
-longer-labels-requires-3 c κs = let L = c .before .before .before .longer-labels2 .ensures in
-    (omega (arith, L .1, c .before .before .before .before .before .before .before .before .longer-labels .ensures .1), omega (arith, c .before .before .before .before .before .before .before .before .before .before .before .before .before .before .before .before .pre .0), omega arith, omega arith, L .0, word-four _ _ (λ h. reaches _ 100 _ _ (c .before .before .before .before .lesser2 .ensures) (L .2) h) (omega (arith, c .before .before .before .before .before .before .before .before .before .before .before .before .before .before .before .before .pre .0)))
+longer-labels-requires-3 c κs = let at-longer-labels2 = c .before .before .before in
+    let at-lesser2 = c .before .before .before .before in
+    let at-longer-labels = c .before .before .before .before .before .before .before .before in
+    let start = c .before .before .before .before .before .before .before .before .before .before .before .before .before .before .before .before in
+    let L = at-longer-labels2 .longer-labels2 .ensures in
+    (omega (arith, L .1, at-longer-labels .longer-labels .ensures .1), omega (arith, start .pre .0), omega arith, omega arith, L .0, word-four _ _ (λ h. reaches _ 100 _ _ (at-lesser2 .lesser2 .ensures) (L .2) h) (omega (arith, start .pre .0)))
 
 cast-words : tie.Need-cast-words
 cast-words c = search needs

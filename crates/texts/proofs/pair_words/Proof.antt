@@ -60,25 +60,53 @@ pair-word-requires : tie.Need-pair-word-requires Inv-loop μ-loop
 pair-word-requires c κs = search needs
 
 add-words : tie.Need-add-words Inv-loop μ-loop
-add-words c = omega (arith, pairing-room (c .before .before .before .before .before .before .before .before .loop .inv) (c .before .before .before .before .before .before .before .loop-test .taken) (c .before .before .before .before .before .wide .ensures) (c .before .before .before .wide2 .ensures))
+add-words c = let at-wide2 = c .before .before .before in
+    let at-wide = c .before .before .before .before .before in
+    let at-loop-test = c .before .before .before .before .before .before .before in
+    let at-loop = c .before .before .before .before .before .before .before .before in
+    omega (arith, pairing-room (at-loop .loop .inv) (at-loop-test .loop-test .taken) (at-wide .wide .ensures) (at-wide2 .wide2 .ensures))
 
 mul-words : tie.Need-mul-words Inv-loop μ-loop
-mul-words c = omega (arith, pairing-room (c .before .before .before .before .before .before .before .before .loop .inv) (c .before .before .before .before .before .before .before .loop-test .taken) (c .before .before .before .before .before .wide .ensures) (c .before .before .before .wide2 .ensures))
+mul-words c = let at-wide2 = c .before .before .before in
+    let at-wide = c .before .before .before .before .before in
+    let at-loop-test = c .before .before .before .before .before .before .before in
+    let at-loop = c .before .before .before .before .before .before .before .before in
+    omega (arith, pairing-room (at-loop .loop .inv) (at-loop-test .loop-test .taken) (at-wide .wide .ensures) (at-wide2 .wide2 .ensures))
 
 slice-write-words : tie.Need-slice-write-words Inv-loop μ-loop
-slice-write-words c = omega (arith, pairing-room (c .before .before .before .before .before .before .before .before .loop .inv) (c .before .before .before .before .before .before .before .loop-test .taken) (c .before .before .before .before .before .wide .ensures) (c .before .before .before .wide2 .ensures))
+slice-write-words c = let at-wide2 = c .before .before .before in
+    let at-wide = c .before .before .before .before .before in
+    let at-loop-test = c .before .before .before .before .before .before .before in
+    let at-loop = c .before .before .before .before .before .before .before .before in
+    omega (arith, pairing-room (at-loop .loop .inv) (at-loop-test .loop-test .taken) (at-wide .wide .ensures) (at-wide2 .wide2 .ensures))
 
 add-number : tie.Need-add-number Inv-loop μ-loop
-add-number c = omega (arith, pairing-room (c .before .before .before .before .before .before .before .before .loop .inv) (c .before .before .before .before .before .before .before .loop-test .taken) (c .before .before .before .before .before .wide .ensures) (c .before .before .before .wide2 .ensures))
+add-number c = let at-wide2 = c .before .before .before in
+    let at-wide = c .before .before .before .before .before in
+    let at-loop-test = c .before .before .before .before .before .before .before in
+    let at-loop = c .before .before .before .before .before .before .before .before in
+    omega (arith, pairing-room (at-loop .loop .inv) (at-loop-test .loop-test .taken) (at-wide .wide .ensures) (at-wide2 .wide2 .ensures))
 
 cast-number : tie.Need-cast-number Inv-loop μ-loop
-cast-number c = omega (arith, pairing-room (c .before .before .before .before .before .before .before .before .loop .inv) (c .before .before .before .before .before .before .before .loop-test .taken) (c .before .before .before .before .before .wide .ensures) (c .before .before .before .wide2 .ensures))
+cast-number c = let at-wide2 = c .before .before .before in
+    let at-wide = c .before .before .before .before .before in
+    let at-loop-test = c .before .before .before .before .before .before .before in
+    let at-loop = c .before .before .before .before .before .before .before .before in
+    omega (arith, pairing-room (at-loop .loop .inv) (at-loop-test .loop-test .taken) (at-wide .wide .ensures) (at-wide2 .wide2 .ensures))
 
 mul-number : tie.Need-mul-number Inv-loop μ-loop
-mul-number c = omega (arith, pairing-room (c .before .before .before .before .before .before .before .before .loop .inv) (c .before .before .before .before .before .before .before .loop-test .taken) (c .before .before .before .before .before .wide .ensures) (c .before .before .before .wide2 .ensures))
+mul-number c = let at-wide2 = c .before .before .before in
+    let at-wide = c .before .before .before .before .before in
+    let at-loop-test = c .before .before .before .before .before .before .before in
+    let at-loop = c .before .before .before .before .before .before .before .before in
+    omega (arith, pairing-room (at-loop .loop .inv) (at-loop-test .loop-test .taken) (at-wide .wide .ensures) (at-wide2 .wide2 .ensures))
 
 slice-write-number : tie.Need-slice-write-number Inv-loop μ-loop
-slice-write-number c = omega (arith, pairing-room (c .before .before .before .before .before .before .before .before .loop .inv) (c .before .before .before .before .before .before .before .loop-test .taken) (c .before .before .before .before .before .wide .ensures) (c .before .before .before .wide2 .ensures))
+slice-write-number c = let at-wide2 = c .before .before .before in
+    let at-wide = c .before .before .before .before .before in
+    let at-loop-test = c .before .before .before .before .before .before .before in
+    let at-loop = c .before .before .before .before .before .before .before .before in
+    omega (arith, pairing-room (at-loop .loop .inv) (at-loop-test .loop-test .taken) (at-wide .wide .ensures) (at-wide2 .wide2 .ensures))
 
 add-t : tie.Need-add-t Inv-loop μ-loop
 add-t c = search needs
@@ -87,7 +115,11 @@ loop-less : tie.Need-loop-less Inv-loop μ-loop
 loop-less c = search needs
 
 loop-again : tie.Need-loop-again Inv-loop μ-loop
-loop-again c = pairing-next (c .before .before .before .before .before .before .before .before .loop .inv) (c .before .before .before .before .before .before .before .loop-test .taken) (c .before .before .before .before .before .wide .ensures) (c .before .before .before .wide2 .ensures) (c .pair-word .ensures)
+loop-again c = let at-wide2 = c .before .before .before in
+    let at-wide = c .before .before .before .before .before in
+    let at-loop-test = c .before .before .before .before .before .before .before in
+    let at-loop = c .before .before .before .before .before .before .before .before in
+    pairing-next (at-loop .loop .inv) (at-loop-test .loop-test .taken) (at-wide .wide .ensures) (at-wide2 .wide2 .ensures) (c .pair-word .ensures)
 
 same-length : tie.Need-same-length Inv-loop μ-loop
 same-length c = c .before .loop .inv .numbered .same-number

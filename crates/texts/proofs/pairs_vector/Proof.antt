@@ -33,7 +33,9 @@ same-length : tie.Need-same-length
 same-length c = search needs
 
 returns : tie.Need-returns
-returns c = λ t T. kept-vector _ _ _ _ _ _ t T (let P = c .before .before .before .before .before .before .before .before .before .before .before .before .before .pre in omega (arith, length-drop 1040 (c .before .before .before .before .before .before .before .before .before .before .before .before .before .args .m .now), P .0 .1, P .0 .2)) (c .before .before .before .before .before .before .before .before .children .ensures .0) (c .before .before .before .before .before .before .before .before .children .ensures .1) _ _ (c .before .before .children-vector .ensures)
+returns c = let at-children = c .before .before .before .before .before .before .before .before in
+    let start = c .before .before .before .before .before .before .before .before .before .before .before .before .before in
+    λ t T. kept-vector _ _ _ _ _ _ t T (let P = start .pre in omega (arith, length-drop 1040 (start .args .m .now), P .0 .1, P .0 .2)) (at-children .children .ensures .0) (at-children .children .ensures .1) _ _ (c .before .before .children-vector .ensures)
 
 pub pairs-vector-spec : {M : Type 1} → statement M
 pairs-vector-spec =

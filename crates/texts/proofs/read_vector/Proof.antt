@@ -50,9 +50,14 @@ slice-aggregate-pairs-vector c = let T = rw (c .before .before .before .before .
     sym (array-kept (c .before .before .before .before .before .before .before .before .before .before .before .before .pre .0) T (length-replicate {A = ℕ} 2576 0))
 
 pairs-vector-requires : tie.Need-pairs-vector-requires
-pairs-vector-requires c κs = let T = rw (c .before .before .before .before .before .before .before .n .given .1) at (c .before .before .before .before .before .before .before .before .before .text .ensures) in
-    let E = rw (not-false (c .before .before .before .each-once .result) (c .before .before .if2 .left)) at (c .before .before .before .each-once .ensures) in
-    ((some-labels (c .before .before .before .before .before .before .before .before .before .before .before .before .before .pre .0) T, c .before .before .before .before .before .if1 .left, array-kept (c .before .before .before .before .before .before .before .before .before .before .before .before .before .pre .0) T (length-replicate {A = ℕ} 2576 0), search needs), (_, table-read (c .before .before .before .before .before .before .before .before .before .before .before .before .before .pre .0) T (length-replicate {A = ℕ} 2576 0) (c .before .before .before .before .before .if1 .left) (zeros-blank 2576) E))
+pairs-vector-requires c κs = let at-each-once = c .before .before .before in
+    let at-if1 = c .before .before .before .before .before in
+    let at-n = c .before .before .before .before .before .before .before in
+    let at-text = c .before .before .before .before .before .before .before .before .before in
+    let start = c .before .before .before .before .before .before .before .before .before .before .before .before .before in
+    let T = rw (at-n .n .given .1) at (at-text .text .ensures) in
+    let E = rw (not-false (at-each-once .each-once .result) (c .before .before .if2 .left)) at (at-each-once .each-once .ensures) in
+    ((some-labels (start .pre .0) T, at-if1 .if1 .left, array-kept (start .pre .0) T (length-replicate {A = ℕ} 2576 0), search needs), (_, table-read (start .pre .0) T (length-replicate {A = ℕ} 2576 0) (at-if1 .if1 .left) (zeros-blank 2576) E))
 
 returns-3 : tie.Need-returns-3
 returns-3 c = breaks (c .before .before .before .before .before .before .before .pre .0) (rw (c .before .k .given .1) at (c .before .before .before .text .ensures))
@@ -61,9 +66,15 @@ same-length : tie.Need-same-length
 same-length c = search needs
 
 returns-4 : tie.Need-returns-4
-returns-4 c = let T = rw (c .before .before .before .before .before .before .before .before .before .before .n .given .1) at (c .before .before .before .before .before .before .before .before .before .before .before .before .text .ensures) in
-    let E = rw (not-false (c .before .before .before .before .before .before .each-once .result) (c .before .before .before .before .before .if2 .left)) at (c .before .before .before .before .before .before .each-once .ensures) in
-    vector-held (c .before .before .before .before .before .before .before .before .before .before .before .before .before .before .before .before .pre .0) T (length-replicate {A = ℕ} 2576 0) (c .before .before .before .before .before .before .before .before .if1 .left) (zeros-blank 2576) E _ _ (c .before .before .pairs-vector .ensures _ (table-read (c .before .before .before .before .before .before .before .before .before .before .before .before .before .before .before .before .pre .0) T (length-replicate {A = ℕ} 2576 0) (c .before .before .before .before .before .before .before .before .if1 .left) (zeros-blank 2576) E))
+returns-4 c = let at-if2 = c .before .before .before .before .before in
+    let at-each-once = c .before .before .before .before .before .before in
+    let at-if1 = c .before .before .before .before .before .before .before .before in
+    let at-n = c .before .before .before .before .before .before .before .before .before .before in
+    let at-text = c .before .before .before .before .before .before .before .before .before .before .before .before in
+    let start = c .before .before .before .before .before .before .before .before .before .before .before .before .before .before .before .before in
+    let T = rw (at-n .n .given .1) at (at-text .text .ensures) in
+    let E = rw (not-false (at-each-once .each-once .result) (at-if2 .if2 .left)) at (at-each-once .each-once .ensures) in
+    vector-held (start .pre .0) T (length-replicate {A = ℕ} 2576 0) (at-if1 .if1 .left) (zeros-blank 2576) E _ _ (c .before .before .pairs-vector .ensures _ (table-read (start .pre .0) T (length-replicate {A = ℕ} 2576 0) (at-if1 .if1 .left) (zeros-blank 2576) E))
 
 pub read-vector-spec : {M : Type 1} → statement M
 read-vector-spec =

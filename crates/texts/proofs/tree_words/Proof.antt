@@ -46,7 +46,10 @@ same-length : tie.Need-same-length
 same-length c = search needs
 
 returns : tie.Need-returns
-returns c = vector-paired (c .before .before .before .before .before .before .before .before .before .before .before .before .before .before .before .before .before .before .before .before .before .before .args .v .now) (c .before .before .before .before .before .before .before .before .before .before .before .before .before .before .merges .last .1 .0) (c .before .before .before .before .before .before .before .before .before .before .before .before .before .before .merges .last .1 .1 .0) (c .before .before .before .before .before .before .before .before .before .before .before .before .before .before .merges .result) _ (c .before .before .before .before .before .before .before .before .before .before .before .before .before .before .merges .ensures .1) (c .before .before .before .pair-words .ensures)
+returns c = let at-pair-words = c .before .before .before in
+    let at-merges = c .before .before .before .before .before .before .before .before .before .before .before .before .before .before in
+    let start = c .before .before .before .before .before .before .before .before .before .before .before .before .before .before .before .before .before .before .before .before .before .before in
+    vector-paired (start .args .v .now) (at-merges .merges .last .1 .0) (at-merges .merges .last .1 .1 .0) (at-merges .merges .result) _ (at-merges .merges .ensures .1) (at-pair-words .pair-words .ensures)
 
 pub tree-words-spec : {M : Type 1} → statement M
 tree-words-spec =

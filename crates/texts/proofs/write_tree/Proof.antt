@@ -18,22 +18,31 @@ tree-words-requires : tie.Need-tree-words-requires
 tree-words-requires c κs = search needs
 
 write-text-requires : tie.Need-write-text-requires
-write-text-requires c κs = (lefts (c .before .before .before .before .before .before .before .args .v .now) (c .before .before .before .before .before .before .before .pre .0) (c .before .before .before .before .before .before .before .pre .1), rights (c .before .before .before .before .before .before .before .args .v .now) (c .before .before .before .before .before .before .before .pre .0) (c .before .before .before .before .before .before .before .pre .1), text-fits (c .before .before .before .before .before .before .before .args .v .now) (c .before .before .before .before .before .before .before .pre .0) (c .before .before .before .before .before .before .before .pre .1) _ _ (c .before .before .before .tree-words .ensures) refl)
+write-text-requires c κs = let at-tree-words = c .before .before .before in
+    let start = c .before .before .before .before .before .before .before in
+    (lefts (start .args .v .now) (start .pre .0) (start .pre .1), rights (start .args .v .now) (start .pre .0) (start .pre .1), text-fits (start .args .v .now) (start .pre .0) (start .pre .1) _ _ (at-tree-words .tree-words .ensures) refl)
 
 slice-aggregate-copy-text : tie.Need-slice-aggregate-copy-text
-slice-aggregate-copy-text c = sym (c .before .write-text .ensures _ _ (text-fits (c .before .before .before .before .before .before .before .before .before .args .v .now) (c .before .before .before .before .before .before .before .before .before .pre .0) (c .before .before .before .before .before .before .before .before .before .pre .1) _ _ (c .before .before .before .before .before .tree-words .ensures) refl) .whole)
+slice-aggregate-copy-text c = let at-tree-words = c .before .before .before .before .before in
+    let start = c .before .before .before .before .before .before .before .before .before in
+    sym (c .before .write-text .ensures _ _ (text-fits (start .args .v .now) (start .pre .0) (start .pre .1) _ _ (at-tree-words .tree-words .ensures) refl) .whole)
 
 copy-text-requires : tie.Need-copy-text-requires
-copy-text-requires c κs = let S = c .before .before .write-text .ensures _ _ (text-fits (c .before .before .before .before .before .before .before .before .before .before .args .v .now) (c .before .before .before .before .before .before .before .before .before .before .pre .0) (c .before .before .before .before .before .before .before .before .before .before .pre .1) _ _ (c .before .before .before .before .before .before .tree-words .ensures) refl) in
-    let e = text-end (c .before .before .before .before .before .before .before .before .before .before .args .v .now) (c .before .before .before .before .before .before .before .before .before .before .pre .0) (c .before .before .before .before .before .before .before .before .before .before .pre .1) _ _ _ S in
-    (omega (arith, e, S .whole, text-length-most _ (c .before .before .before .before .before .before .before .before .before .before .pre .1)), omega (arith, e, c .before .before .before .before .before .before .before .before .before .before .pre .2))
+copy-text-requires c κs = let at-tree-words = c .before .before .before .before .before .before in
+    let start = c .before .before .before .before .before .before .before .before .before .before in
+    let S = c .before .before .write-text .ensures _ _ (text-fits (start .args .v .now) (start .pre .0) (start .pre .1) _ _ (at-tree-words .tree-words .ensures) refl) in
+    let e = text-end (start .args .v .now) (start .pre .0) (start .pre .1) _ _ _ S in
+    (omega (arith, e, S .whole, text-length-most _ (start .pre .1)), omega (arith, e, start .pre .2))
 
 same-length : tie.Need-same-length
 same-length c = search needs
 
 returns : tie.Need-returns
-returns c = let S = c .before .before .before .before .before .write-text .ensures _ _ (text-fits (c .before .before .before .before .before .before .before .before .before .before .before .before .before .args .v .now) (c .before .before .before .before .before .before .before .before .before .before .before .before .before .pre .0) (c .before .before .before .before .before .before .before .before .before .before .before .before .before .pre .1) _ _ (c .before .before .before .before .before .before .before .before .before .tree-words .ensures) refl) in
-    text-there (c .before .before .before .before .before .before .before .before .before .before .before .before .before .args .v .now) (c .before .before .before .before .before .before .before .before .before .before .before .before .before .pre .0) (c .before .before .before .before .before .before .before .before .before .before .before .before .before .pre .1) _ _ _ S _ _ (c .before .before .copy-text .ensures)
+returns c = let at-write-text = c .before .before .before .before .before in
+    let at-tree-words = c .before .before .before .before .before .before .before .before .before in
+    let start = c .before .before .before .before .before .before .before .before .before .before .before .before .before in
+    let S = at-write-text .write-text .ensures _ _ (text-fits (start .args .v .now) (start .pre .0) (start .pre .1) _ _ (at-tree-words .tree-words .ensures) refl) in
+    text-there (start .args .v .now) (start .pre .0) (start .pre .1) _ _ _ S _ _ (c .before .before .copy-text .ensures)
 
 pub write-tree-spec : {M : Type 1} → statement M
 write-tree-spec =
