@@ -16,8 +16,9 @@
  * null; of an empty list it may be anything else. `answer` is not null, has room for two numbers, and overlaps no list. No
  * two lists that are lent to one call overlap, inputs and outputs alike.
  *
- * Stack. A call takes what the table says at its deepest, as measured over trees of 1,024 leaves (bench/run --stack): have
- * 128 KiB free. Nothing in the library looks whether there is enough.
+ * Stack. In bytes, at the deepest, as measured over trees of 1,024 leaves (bench/run --stack): check 0, to_table 12,488,
+ * from_table 17,800, to_newick 55,400, from_newick 53,368, pack 3,424, unpack 4,240, shuffle 28,184, relabel 22,024. Have 128 KiB
+ * free: nothing in the library looks whether there is enough.
  *
  * Answers. The last parameter points to two numbers that every call sets:
  *
