@@ -37,11 +37,11 @@ fn write_entries(v: &[u16], out: &mut [u8], at: usize) -> usize
     requires { ⌜ Valid (now v) × (length (now v) ≤ 1024) × (at + 5 * length (now v) ≤ length (now out)) ⌝ }
     ensures { λ r. ⌜ Wrote (commaed (now (v .entry))) at (now (out .entry)) (now (out .exit)) r ⌝ }
 {
-    let mut x = text_writer::write_label(vector::wide(v[0]), out, at);
+    let mut x = text_writer::write_label(numbers::wide(v[0]), out, at);
     let mut i: usize = 1;
     while i < v.len() {
         out[x] = 44;
-        x = text_writer::write_label(vector::wide(v[i]), out, x + 1);
+        x = text_writer::write_label(numbers::wide(v[i]), out, x + 1);
         i += 1;
     }
     x

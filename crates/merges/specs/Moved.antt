@@ -11,7 +11,7 @@ use lib.Dec.{ltb}
 use lib.ListN.{length, take, drop, getD, set, length-append, length-take, length-drop, length-set}
 use lib.Seq.{ext-getD, take-append-le, take-take, drop-drop}
 use borrow.Author.Tests.{ltb-true, ltb-false}
-use Rattle.vector.specs.Front.{mix, mix-step, mix-down, mix-length, mix-above, mix-below}
+use Rattle.lists.specs.Front.{mix, mix-step, mix-down, mix-length, mix-above, mix-below}
 
 -- a at position s of l
 unfoldable pub ins : {A : Type 0} → ℕ → A → List A → List A

@@ -7,7 +7,7 @@ ghost use Rattle.merging.specs.Insertion.{pairs};
 ghost use Rattle.merges.specs.Moved.{ins, moved};
 ghost use Rattle.merges.specs.Held.{held};
 ghost use Rattle.merges.specs.Built.{Turn, Put};
-use vector::wide;
+use numbers::wide;
 
 // The names behind e, as far as `at`, move down over the name at e, and w follows them.
 fn move_down(list: &mut [u16], e: usize, at: usize, w: u16)

@@ -18,7 +18,7 @@ ghost use Rattle.order.specs.Entered.{Given, Headed, Entered};
 ghost use Rattle.order.specs.Keyed.{Keyed};
 ghost use Rattle.order.specs.Vector.{Drawn};
 ghost use Rattle.order.specs.Built.{Built, Adds};
-use vector::wide;
+use numbers::wide;
 
 // The entries of the names behind the key k in its chain. keys counts the keys from k on; out[j] has how many of them are above j.
 // The merges before j of names below it are those of the keys between k and j, and those of the set, which are no keys.
@@ -112,26 +112,6 @@ pub fn vector_of(n: usize, small: &[u16], next: &[u16], last: &[u16], out: &mut 
     out[0] = 0;
 }
 
-/// The lesser of two numbers.
-pub fn lesser(x: usize, y: usize) -> usize
-    ensures { λ r. ⌜ r ≡ min x y ⌝ }
-{
-    if x < y {
-        return x;
-    }
-    y
-}
-
-/// The greater of two numbers.
-pub fn greater(x: usize, y: usize) -> usize
-    ensures { λ r. ⌜ r ≡ max x y ⌝ }
-{
-    if x < y {
-        return y;
-    }
-    x
-}
-
 /// Adds the row of node p with the children l and r to the arrays. a and i are the smaller and the larger of the children's names; names and
 /// lows have the name and the key of each node. A leaf has no pair, and its key is 1024. The pair goes to the end of its key's chain, and
 /// next[i] is 0 from the start; next[0] belongs to no pair.
@@ -151,7 +131,7 @@ pub fn add_pair(
     ensures { λ _. ⌜ ((n : ℕ) (rs : List Row) → Adds n rs p l r a i (now (names .entry)) (now (lows .entry)) (now (small .entry)) (now (next .entry)) (now (last .entry)) → Built n (rs ++ ((l, r, p) ∷ [])) (now (names .exit)) (now (lows .exit)) (now (small .exit)) (now (next .exit)) (now (last .exit))) ⌝ }
     ensures { λ _. ⌜ now (names .exit) ≡ set (now (names .entry)) p a ⌝ }
 {
-    let k = lesser(lesser(i, wide(lows[l])), wide(lows[r]));
+    let k = numbers::lesser(numbers::lesser(i, wide(lows[l])), wide(lows[r]));
     let j = wide(last[k]);
     small[i] = a as u16;
     next[j] = i as u16;

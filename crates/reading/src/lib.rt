@@ -11,7 +11,7 @@ ghost use Rattle.reading.specs.Told.{misplacement, HasRead, Told};
 ghost use Rattle.reading.specs.Children.{Children, Added};
 ghost use Rattle.rules.specs.Order.{vectorOf};
 ghost use Rattle.rules.specs.Table.{Row, tableTree};
-use vector::wide;
+use numbers::wide;
 
 // What the rows of a table are found to be: accepted; or the first row that is refused, for its parent, for a child that is not
 // below its parent, or for a child that was named before.
@@ -85,7 +85,7 @@ fn read_rows(
         if 65535 <= s {
             return Found::NamedBefore(t);
         }
-        let i = order::greater(x, y);
+        let i = numbers::greater(x, y);
         order::add_pair(names, lows, small, next, last, p, l, r, s - i, i);
         t += 1;
     }
@@ -102,7 +102,7 @@ pub fn table_vector(n: usize, rows: &[u16], vector: &mut [u16]) -> Found
     let mut small = [0u16; 1024];
     let mut next = [0u16; 1024];
     let mut last = [0u16; 1024];
-    vector::number_leaves(&mut names, n);
+    lists::number_leaves(&mut names, n);
     match read_rows(
         n,
         rows,
@@ -144,8 +144,8 @@ fn add_children(
         let r = wide(right[t]);
         let x = wide(names[l]);
         let y = wide(names[r]);
-        let a = order::lesser(x, y);
-        let i = order::greater(x, y);
+        let a = numbers::lesser(x, y);
+        let i = numbers::greater(x, y);
         order::add_pair(names, lows, small, next, last, n + t, l, r, a, i);
         t += 1;
     }
@@ -162,7 +162,7 @@ pub fn children_vector(n: usize, left: &[u16], right: &[u16], vector: &mut [u16]
     let mut small = [0u16; 1024];
     let mut next = [0u16; 1024];
     let mut last = [0u16; 1024];
-    vector::number_leaves(&mut names, n);
+    lists::number_leaves(&mut names, n);
     add_children(
         n,
         left,

@@ -31,18 +31,12 @@ fn field_width(i: usize) -> u32
     32 - u32::leading_zeros((2 * (i - 1)) as u32)
 }
 
-fn lesser(a: usize, b: usize) -> usize
-    ensures { λ r. ⌜ r ≡ min a b ⌝ }
-{
-    if a < b { a } else { b }
-}
-
 // Where the entries of one width from i on end, or end where they end later.
 fn run_end(i: usize, end: usize) -> usize
     requires { ⌜ Fours i end × (i < end) × (end ≤ 1024) ⌝ }
     ensures { λ r. ⌜ (i < r) × (r ≤ end) × Run i r ⌝ }
 {
-    lesser((1usize << (field_width(i) - 1)) + 1, end)
+    numbers::lesser((1usize << (field_width(i) - 1)) + 1, end)
 }
 
 // Where the fours from entry `first` on end, so that `behind` entries at least follow them.
@@ -50,7 +44,7 @@ fn fours_end(first: usize, behind: usize, n: usize) -> usize
     requires { ⌜ (first ≤ n) × (n ≤ 1024) × (behind ≤ 1024) ⌝ }
     ensures { λ r. ⌜ (first ≤ r) × (r ≤ n) × (r % 4 ≡ first % 4) × (first < r → r + behind ≤ n) ⌝ }
 {
-    first + (n - lesser(first + behind, n)) / 4 * 4
+    first + (n - numbers::lesser(first + behind, n)) / 4 * 4
 }
 
 // Appends the fields of the entries from i to end one by one.
@@ -103,23 +97,11 @@ pub fn put_entries(v: &[u16], out: &mut [u8], p: Pending) -> Pending
     ensures { λ r. ⌜ PutEntries (now (v .entry)) 1 (length (now (v .entry))) p (now (out .entry)) r (now (out .exit)) ⌝ }
 {
     let n = v.len();
-    let first = lesser(5, n);
+    let first = numbers::lesser(5, n);
     let last = fours_end(first, 0, n);
     let fours = put_singles(v, 1, first, out, p);
     let rest = put_fours(v, first, last, out, fours);
     put_singles(v, last, n, out, rest)
-}
-
-// The first n bytes of src become those of out; the others stay.
-fn copy_bytes(src: &[u8], n: usize, out: &mut [u8])
-    requires { ⌜ (n ≤ length (now src)) × (n ≤ length (now out)) ⌝ }
-    ensures { λ _. ⌜ now (out .exit) ≡ take n (now (src .entry)) ++ drop n (now (out .entry)) ⌝ }
-{
-    let mut k: usize = 0;
-    while k < n {
-        out[k] = src[k];
-        k += 1;
-    }
 }
 
 /// Writes the record of a valid vector to the front of `out`. It is built in an array of its own, since a word is stored at a time.
@@ -135,7 +117,7 @@ pub fn pack_into(v: &[u16], out: &mut [u8])
     };
     let count = bits::put_bits(&mut built, none, 11, v.len() as u64);
     let p = put_entries(v, &mut built, count);
-    copy_bytes(&built, p.at + ((p.have + 7) / 8) as usize, out);
+    lists::copy_bytes(&built, p.at + ((p.have + 7) / 8) as usize, out);
 }
 
 /// The leaf count that a record begins with.
@@ -233,7 +215,7 @@ pub fn read_record(s: &[u8], n: usize, out: &mut [u16]) -> bool
     ensures { λ r. ⌜ (take n (now (out .exit)) ≡ entriesOf n (now (s .entry))) × (r ≡ anySet (padding n (now (s .entry)))) ⌝ }
 {
     out[0] = 0;
-    let first = lesser(5, n);
+    let first = numbers::lesser(5, n);
     let last = fours_end(first, 12, n);
     let width = (8 * s.len() - totals::bits_before(n)) as u32;
     let mut rest = [0u16; 1];

@@ -1031,16 +1031,10 @@ const TOTALS: [u16; 1024] = [
     10240,
 ];
 
-fn wide(x: u16) -> usize
-    ensures { λ r. ⌜ r ≡ x ⌝ }
-{
-    x as usize
-}
-
 /// L(n).
 pub fn bits_before(n: usize) -> usize
     requires { ⌜ (1 ≤ n) × (n ≤ 1024) ⌝ }
     ensures { λ r. ⌜ r ≡ total n ⌝ }
 {
-    wide(TOTALS[n - 1])
+    numbers::wide(TOTALS[n - 1])
 }

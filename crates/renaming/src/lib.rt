@@ -33,7 +33,7 @@ pub fn renamed_vector(v: &[u16], p: &[u16], vector: &mut [u16])
     table::rows_of(v, &mut left, &mut right);
     let mut entries = [0u16; 1024];
     rename_rows(v, p, &mut left, &mut right, &mut entries);
-    vector::copy_out(&entries, v.len(), vector);
+    lists::copy_numbers(&entries, v.len(), vector);
 }
 
 // Queue Shuffle of v's tree: the new labels at the front of new, the vector of the relabelled tree at the front of vector.
@@ -52,6 +52,6 @@ pub fn shuffled(v: &[u16], new: &mut [u16], vector: &mut [u16])
     shuffle::queue(n, &left, &right, &mut nodes, &mut labels, &mut new_labels);
     let mut entries = [0u16; 1024];
     rename_rows(v, &new_labels[..n], &mut left, &mut right, &mut entries);
-    vector::copy_out(&new_labels, n, new);
-    vector::copy_out(&entries, n, vector);
+    lists::copy_numbers(&new_labels, n, new);
+    lists::copy_numbers(&entries, n, vector);
 }

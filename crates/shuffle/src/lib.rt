@@ -10,7 +10,7 @@ ghost use Rattle.shuffle.specs.Held.{heldNodes, heldTree, Tabled};
 ghost use Rattle.shuffle.specs.Waits.{queueAt, Waits, Lent, Ready, Placed};
 ghost use Rattle.shuffle.specs.Renames.{renamedTo};
 ghost use Rattle.shuffle.specs.Marks.{placeOf, Mark};
-use vector::wide;
+use numbers::wide;
 
 // A leaf gets its label; another node goes to the back of the queue with it. The result is where the queue ends then.
 fn place(

@@ -6,7 +6,7 @@ use Prim.Native.Nat.{ℕ, _+_, _-_, _≤_, _<_}
 use native.Mathlib.Omega.{arith}
 use lib.ListN.{length, drop, getD, set, length-map, length-set, List·getD-map}
 use lib.Seq.{take-all}
-use Rattle.vector.specs.Front.{mix, mix-start, mix-step}
+use Rattle.lists.specs.Front.{mix, mix-start, mix-step}
 use Rattle.table_laws.specs.Rows.{first, second}
 use Rattle.table.specs.Numbered.{heldRows, rows-long, Held, Numbered, numbered-start, numbered-next, row-at}
 

@@ -8,7 +8,7 @@ use lib.ListN.{length, take, drop, getD, set, length-map, length-set, length-tak
 use lib.Seq.{take-all, take-at, getD-take}
 use Rattle.rules.specs.Vector.{entry}
 use Rattle.rules.specs.Table.{Row, flat, rowsFrom}
-use Rattle.vector.specs.Front.{mix, mix-start, mix-step}
+use Rattle.lists.specs.Front.{mix, mix-start, mix-step}
 use Rattle.merging.specs.Insertion.{pairs, pairs-count}
 use Rattle.table_laws.specs.Flat.{flat-length, flat-first, flat-second, flat-parent}
 use Rattle.table_laws.specs.Rows.{first, second, rows-length, tied-rows}

@@ -8,7 +8,7 @@ ghost use Rattle.merging.specs.Insertion.{pairs};
 ghost use Rattle.table_laws.specs.Rows.{first, second};
 ghost use Rattle.table.specs.Numbered.{heldRows, Held};
 ghost use Rattle.table.specs.Written.{childRows};
-use vector::wide;
+use numbers::wide;
 
 // The children of the rows of the merges that list and small hold; number has the node of each name.
 fn children(
@@ -42,7 +42,7 @@ fn held_merges(v: &[u16], list: &mut [u16], small: &mut [u16], number: &mut [u16
     ensures { λ r. ⌜ Held (now (list .exit)) (now (small .exit)) r (length (now (v .entry))) (now (number .exit))
         × (heldRows (now (list .exit)) (now (small .exit)) r (length (now (v .entry))) ≡ rowsFrom (length (now (v .entry))) (λ c. c) (pairs (now (v .entry)))) ⌝ }
 {
-    vector::number_leaves(number, v.len());
+    lists::number_leaves(number, v.len());
     merges::merges(v, list, small)
 }
 

@@ -96,15 +96,6 @@ fn longer_labels(words: &mut [u32], from: usize, to: usize, more: u32, step: u32
     y
 }
 
-fn lesser(x: usize, y: usize) -> usize
-    ensures { λ r. ⌜ r ≡ min x y ⌝ }
-{
-    if x < y {
-        return x;
-    }
-    y
-}
-
 // The words of n leaves: first the labels of one digit, then those of two, three and four, whose count makes room for a sign.
 pub fn leaf_words(words: &mut [u32], n: usize)
     requires { ⌜ (n ≤ 1024) × (length (now words) ≡ 2048) ⌝ }
@@ -112,8 +103,20 @@ pub fn leaf_words(words: &mut [u32], n: usize)
 {
     ten_words(words, 0, FOURTH + 48, 1);
     let tens = (n + 9) / 10;
-    let a = longer_labels(words, 1, lesser(tens, 10), FOURTH + 48 * SECOND, SECOND);
-    let b = longer_labels(words, a, lesser(tens, 100), FOURTH + 48 * THIRD, THIRD);
+    let a = longer_labels(
+        words,
+        1,
+        numbers::lesser(tens, 10),
+        FOURTH + 48 * SECOND,
+        SECOND,
+    );
+    let b = longer_labels(
+        words,
+        a,
+        numbers::lesser(tens, 100),
+        FOURTH + 48 * THIRD,
+        THIRD,
+    );
     longer_labels(words, b, tens, 48 * FOURTH - 3 * FOURTH, FOURTH);
     words[LEAVES] = n as u32;
 }

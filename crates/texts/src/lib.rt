@@ -1,6 +1,6 @@
 // The text of a vector's tree, and the vector of a text's tree: what the public calls do between their checks.
 use newick::Read;
-use vector::wide;
+use numbers::wide;
 ghost use mathlib.Core.Path.{_≡_};
 ghost use mathlib.Core.List.{_++_};
 ghost use Prim.Native.Nat.{_+_, _-_, _*_, _≤_};
@@ -85,22 +85,10 @@ fn tree_words(v: &[u16], words: &mut [u32])
     let mut list = [0u16; 2080];
     let mut small = [0u16; 1024];
     let mut number = [0u16; 1024];
-    vector::number_leaves(&mut number, v.len());
+    lists::number_leaves(&mut number, v.len());
     let start = merges::merges(v, &mut list, &mut small);
     text_writer::leaf_words(words, v.len());
     pair_words(&list, &small, start, v.len(), &mut number, words);
-}
-
-// The first n bytes of src become those of out; the others stay.
-fn copy_text(src: &[u8], n: usize, out: &mut [u8])
-    requires { ⌜ (n ≤ length (now src)) × (n ≤ length (now out)) ⌝ }
-    ensures { λ _. ⌜ now (out .exit) ≡ take n (now (src .entry)) ++ drop n (now (out .entry)) ⌝ }
-{
-    let mut k: usize = 0;
-    while k < n {
-        out[k] = src[k];
-        k += 1;
-    }
 }
 
 // The text of v's tree.
@@ -112,7 +100,7 @@ pub fn write_tree(v: &[u16], out: &mut [u8])
     let mut text = [0u8; 6144];
     tree_words(v, &mut words);
     let count = text_writer::write_text(&words, v.len(), &mut text);
-    copy_text(&text, count, out);
+    lists::copy_bytes(&text, count, out);
 }
 
 // The vector of the tree with n leaves whose pairs are recorded, at the front of vector.

@@ -77,7 +77,7 @@ pub fn from_table(leaves: usize, rows: &[u16], out: &mut [u16]) -> Answer
             if out.len() < leaves {
                 return refuse(Kind::Room, leaves);
             }
-            vector::copy_out(&vector, leaves, out);
+            lists::copy_numbers(&vector, leaves, out);
             Answer::Done(leaves)
         }
     }
@@ -116,7 +116,7 @@ pub fn from_newick(text: &[u8], out: &mut [u16]) -> Answer
             if out.len() < n {
                 return refuse(Kind::Room, n);
             }
-            vector::copy_out(&vector, n, out);
+            lists::copy_numbers(&vector, n, out);
             Answer::Done(n)
         }
     }
@@ -165,7 +165,7 @@ pub fn unpack(s: &[u8], out: &mut [u16]) -> Answer
             if out.len() < n {
                 return refuse(Kind::Room, n);
             }
-            vector::copy_out(&vector, n, out);
+            lists::copy_numbers(&vector, n, out);
             Answer::Done(n)
         }
     }

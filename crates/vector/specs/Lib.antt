@@ -1,3 +1,1 @@
 pub mod Fault
-pub mod Front
-pub mod Leaves

@@ -1,14 +1,8 @@
+// The check of a vector: its first entry above its bound.
 ghost use mathlib.Core.Path.{_≡_};
-ghost use mathlib.Core.List.{_++_};
 ghost use Prim.Native.Nat.{ℕ, _-_, _*_, _<_, _≤_};
-ghost use lib.ListN.{length, take, drop, getD};
+ghost use lib.ListN.{length, getD};
 ghost use Rattle.vector.specs.Fault.{firstFault};
-
-pub fn wide(x: u16) -> usize
-    ensures { λ r. ⌜ r ≡ x ⌝ }
-{
-    x as usize
-}
 
 // 1 where x is above its bound, else 0.
 fn excess(x: u16, bound: u16) -> u16
@@ -49,34 +43,10 @@ pub fn first_fault(v: &[u16]) -> usize
     }
     let mut i: usize = 1;
     while i < n {
-        if 2 * (i - 1) < wide(v[i]) {
+        if 2 * (i - 1) < numbers::wide(v[i]) {
             return i;
         }
         i += 1;
     }
     n
-}
-
-// The first n elements of src become those of out; the others stay.
-pub fn copy_out(src: &[u16], n: usize, out: &mut [u16])
-    requires { ⌜ (n ≤ length (now src)) × (n ≤ length (now out)) ⌝ }
-    ensures { λ r. ⌜ now (out .exit) ≡ take n (now (src .entry)) ++ drop n (now (out .entry)) ⌝ }
-{
-    let mut k: usize = 0;
-    while k < n {
-        out[k] = src[k];
-        k += 1;
-    }
-}
-
-// Each leaf is its own node, and its own name.
-pub fn number_leaves(number: &mut [u16], n: usize)
-    requires { ⌜ (n ≤ length (now number)) × (n ≤ 1024) ⌝ }
-    ensures { λ r. ⌜ ((c : ℕ) → c < n → getD (now (number .exit)) c 0 ≡ c) ⌝ }
-{
-    let mut c: usize = 0;
-    while c < n {
-        number[c] = c as u16;
-        c += 1;
-    }
 }

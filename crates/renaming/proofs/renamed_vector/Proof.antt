@@ -29,18 +29,18 @@ rename-rows-requires c κs = let P = c .before .before .before .before .before .
     let kept = c .before .before .before .before .before .rows-of .kept in
     ((rows-of _ _ _ _ _ (P .0 .0) (omega arith) (omega arith) (P .0 .1) (E .0) (E .1), P .0 .1, omega (arith, P .0 .1)), P .1)
 
-slice-aggregate-copy-out : tie.Need-slice-aggregate-copy-out
-slice-aggregate-copy-out c = search needs
+slice-aggregate-copy-numbers : tie.Need-slice-aggregate-copy-numbers
+slice-aggregate-copy-numbers c = search needs
 
-copy-out-requires : tie.Need-copy-out-requires
-copy-out-requires c κs = search needs
+copy-numbers-requires : tie.Need-copy-numbers-requires
+copy-numbers-requires c κs = search needs
 
 same-length : tie.Need-same-length
 same-length c = search needs
 
 returns : tie.Need-returns
 returns c = let P = c .before .before .before .before .before .before .before .before .before .before .before .before .before .before .before .before .before .before .before .before .pre in
-    rw (renamed-front _ _ _ _ (P .0 .0) (P .1 .0) (P .1 .1) (c .before .before .before .before .before .before .before .before .rename-rows .ensures)) at (c .before .before .copy-out .ensures)
+    rw (renamed-front _ _ _ _ (P .0 .0) (P .1 .0) (P .1 .1) (c .before .before .before .before .before .before .before .before .rename-rows .ensures)) at (c .before .before .copy-numbers .ensures)
 
 pub renamed-vector-spec : {M : Type 1} → statement M
 renamed-vector-spec =
@@ -53,7 +53,7 @@ renamed-vector-spec =
     slice-aggregate-rename-rows-2
     slice-aggregate-rename-rows-3
     rename-rows-requires
-    slice-aggregate-copy-out
-    copy-out-requires
+    slice-aggregate-copy-numbers
+    copy-numbers-requires
     same-length
     returns)

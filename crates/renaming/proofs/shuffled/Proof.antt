@@ -67,17 +67,17 @@ rename-rows-requires c κs = let P = c .before .before .before .before .before .
     let N = labels (c .before .before .before .before .before .before .before) in
     ((rows (c .before .before .before .before .before .before .before .before .before .before .before .before .before .before .before), P .1, omega (arith, P .1)), (N .count, N .no-fault))
 
-slice-aggregate-copy-out : tie.Need-slice-aggregate-copy-out
-slice-aggregate-copy-out c = search needs
+slice-aggregate-copy-numbers : tie.Need-slice-aggregate-copy-numbers
+slice-aggregate-copy-numbers c = search needs
 
-copy-out-requires : tie.Need-copy-out-requires
-copy-out-requires c κs = search needs
+copy-numbers-requires : tie.Need-copy-numbers-requires
+copy-numbers-requires c κs = search needs
 
-slice-aggregate-copy-out-2 : tie.Need-slice-aggregate-copy-out-2
-slice-aggregate-copy-out-2 c = search needs
+slice-aggregate-copy-numbers-2 : tie.Need-slice-aggregate-copy-numbers-2
+slice-aggregate-copy-numbers-2 c = search needs
 
-copy-out-requires-2 : tie.Need-copy-out-requires-2
-copy-out-requires-2 c κs = search needs
+copy-numbers-requires-2 : tie.Need-copy-numbers-requires-2
+copy-numbers-requires-2 c κs = search needs
 
 same-length : tie.Need-same-length
 same-length c = search needs
@@ -89,7 +89,7 @@ returns : tie.Need-returns
 returns c = let R = rows (c .before .before .before .before .before .before .before .before .before .before .before .before .before .before .before .before .before .before .before .before .before .before .before .before .before .before .before .before .before) in
     let N = labels (c .before .before .before .before .before .before .before .before .before .before .before .before .before .before .before .before .before .before .before .before .before) in
     let front = renamed-front _ _ _ _ (R .valid) (N .count) (N .no-fault) (c .before .before .before .before .before .before .before .before .before .before .before .before .before .rename-rows .ensures) in
-    (rw (N .labels) at (c .before .before .before .before .before .before .before .copy-out .ensures), rw (N .labels) at (rw front at (c .before .before .copy-out2 .ensures)))
+    (rw (N .labels) at (c .before .before .before .before .before .before .before .copy-numbers .ensures), rw (N .labels) at (rw front at (c .before .before .copy-numbers2 .ensures)))
 
 pub shuffled-spec : {M : Type 1} → statement M
 shuffled-spec =
@@ -110,10 +110,10 @@ shuffled-spec =
     slice-aggregate-rename-rows-3
     slice-aggregate-rename-rows-4
     rename-rows-requires
-    slice-aggregate-copy-out
-    copy-out-requires
-    slice-aggregate-copy-out-2
-    copy-out-requires-2
+    slice-aggregate-copy-numbers
+    copy-numbers-requires
+    slice-aggregate-copy-numbers-2
+    copy-numbers-requires-2
     same-length
     same-length-2
     returns)

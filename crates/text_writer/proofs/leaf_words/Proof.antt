@@ -7,7 +7,7 @@ use Rattle.text_writer.proofs.leaf_words.Statement.{statement}
 use Rattle.text_writer.proofs.leaf_words.Tie as tie
 use Rattle.text_writer.proofs.leaf_words.Reads as reads
 use Rattle.text_writer.proofs.leaf_words.Lts as lts
-use Rattle.text_writer.proofs.lesser.Reads as lesser-reads
+use Rattle.numbers.proofs.lesser.Reads as lesser-reads
 use Rattle.text_writer.proofs.longer_labels.Reads as longer-labels-reads
 use Rattle.text_writer.proofs.ten_words.Reads as ten-words-reads
 

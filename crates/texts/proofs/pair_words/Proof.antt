@@ -9,7 +9,7 @@ use Rattle.texts.proofs.pair_words.Tie as tie
 use Rattle.texts.proofs.pair_words.Reads as reads
 use Rattle.texts.proofs.pair_words.Lts as lts
 use Rattle.texts.proofs.pair_word.Reads as pair-word-reads
-use Rattle.vector.proofs.wide.Reads as wide-reads
+use Rattle.numbers.proofs.wide.Reads as wide-reads
 
 abbrev Inv-loop : tie.InvT-loop
 Inv-loop list small start n number₀ words₀ last t₀ number words t = Pairing list small start n number₀ number words t

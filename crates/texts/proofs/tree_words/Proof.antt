@@ -8,7 +8,7 @@ use Rattle.texts.proofs.tree_words.Lts as lts
 use Rattle.merges.proofs.merges.Reads as merges-reads
 use Rattle.text_writer.proofs.leaf_words.Reads as leaf-words-reads
 use Rattle.texts.proofs.pair_words.Reads as pair-words-reads
-use Rattle.vector.proofs.number_leaves.Reads as number-leaves-reads
+use Rattle.lists.proofs.number_leaves.Reads as number-leaves-reads
 
 slice-aggregate-number-leaves : tie.Need-slice-aggregate-number-leaves
 slice-aggregate-number-leaves c = search needs

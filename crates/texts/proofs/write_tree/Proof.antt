@@ -8,7 +8,7 @@ use Rattle.texts.proofs.write_tree.Tie as tie
 use Rattle.texts.proofs.write_tree.Reads as reads
 use Rattle.texts.proofs.write_tree.Lts as lts
 use Rattle.text_writer.proofs.write_text.Reads as write-text-reads
-use Rattle.texts.proofs.copy_text.Reads as copy-text-reads
+use Rattle.lists.proofs.copy_bytes.Reads as copy-bytes-reads
 use Rattle.texts.proofs.tree_words.Reads as tree-words-reads
 
 slice-aggregate-tree-words : tie.Need-slice-aggregate-tree-words
@@ -22,13 +22,13 @@ write-text-requires c κs = let at-tree-words = c .before .before .before in
     let start = c .before .before .before .before .before .before .before in
     (lefts (start .args .v .now) (start .pre .0) (start .pre .1), rights (start .args .v .now) (start .pre .0) (start .pre .1), text-fits (start .args .v .now) (start .pre .0) (start .pre .1) _ _ (at-tree-words .tree-words .ensures) refl)
 
-slice-aggregate-copy-text : tie.Need-slice-aggregate-copy-text
-slice-aggregate-copy-text c = let at-tree-words = c .before .before .before .before .before in
+slice-aggregate-copy-bytes : tie.Need-slice-aggregate-copy-bytes
+slice-aggregate-copy-bytes c = let at-tree-words = c .before .before .before .before .before in
     let start = c .before .before .before .before .before .before .before .before .before in
     sym (c .before .write-text .ensures _ _ (text-fits (start .args .v .now) (start .pre .0) (start .pre .1) _ _ (at-tree-words .tree-words .ensures) refl) .whole)
 
-copy-text-requires : tie.Need-copy-text-requires
-copy-text-requires c κs = let at-tree-words = c .before .before .before .before .before .before in
+copy-bytes-requires : tie.Need-copy-bytes-requires
+copy-bytes-requires c κs = let at-tree-words = c .before .before .before .before .before .before in
     let start = c .before .before .before .before .before .before .before .before .before .before in
     let S = c .before .before .write-text .ensures _ _ (text-fits (start .args .v .now) (start .pre .0) (start .pre .1) _ _ (at-tree-words .tree-words .ensures) refl) in
     let e = text-end (start .args .v .now) (start .pre .0) (start .pre .1) _ _ _ S in
@@ -42,7 +42,7 @@ returns c = let at-write-text = c .before .before .before .before .before in
     let at-tree-words = c .before .before .before .before .before .before .before .before .before in
     let start = c .before .before .before .before .before .before .before .before .before .before .before .before .before in
     let S = at-write-text .write-text .ensures _ _ (text-fits (start .args .v .now) (start .pre .0) (start .pre .1) _ _ (at-tree-words .tree-words .ensures) refl) in
-    text-there (start .args .v .now) (start .pre .0) (start .pre .1) _ _ _ S _ _ (c .before .before .copy-text .ensures)
+    text-there (start .args .v .now) (start .pre .0) (start .pre .1) _ _ _ S _ _ (c .before .before .copy-bytes .ensures)
 
 pub write-tree-spec : {M : Type 1} → statement M
 write-tree-spec =
@@ -51,7 +51,7 @@ write-tree-spec =
     slice-aggregate-tree-words
     tree-words-requires
     write-text-requires
-    slice-aggregate-copy-text
-    copy-text-requires
+    slice-aggregate-copy-bytes
+    copy-bytes-requires
     same-length
     returns)

@@ -10,7 +10,7 @@ use Rattle.trees.proofs.from_newick.Reads as reads
 use Rattle.trees.proofs.from_newick.Lts as lts
 use Rattle.texts.proofs.read_vector.Reads as read-vector-reads
 use Rattle.trees.proofs.refuse.Reads as refuse-reads
-use Rattle.vector.proofs.copy_out.Reads as copy-out-reads
+use Rattle.lists.proofs.copy_numbers.Reads as copy-numbers-reads
 
 refuse-requires : tie.Need-refuse-requires
 refuse-requires c κs = search needs
@@ -54,11 +54,11 @@ unfolding answers.reads answers.numberOf
 returns-2 c = let H = rw (c .before .before .before .n .given .1) at (c .before .before .before .before .before .before .read-vector .ensures) in
     short-room _ _ (H .makes) (H .count) (c .before .if2 .taken) (c .refuse5 .ensures)
 
-slice-aggregate-copy-out : tie.Need-slice-aggregate-copy-out
-slice-aggregate-copy-out c = search needs
+slice-aggregate-copy-numbers : tie.Need-slice-aggregate-copy-numbers
+slice-aggregate-copy-numbers c = search needs
 
-copy-out-requires : tie.Need-copy-out-requires
-copy-out-requires c κs = let H = rw (c .before .before .before .before .n .given .1) at (c .before .before .before .before .before .before .before .read-vector .ensures) in
+copy-numbers-requires : tie.Need-copy-numbers-requires
+copy-numbers-requires c κs = let H = rw (c .before .before .before .before .n .given .1) at (c .before .before .before .before .before .before .before .read-vector .ensures) in
     (held-there H, c .before .before .if2 .left)
 
 returns-3 : tie.Need-returns-3
@@ -82,7 +82,7 @@ same-length c = search needs
 returns-6 : tie.Need-returns-6
 unfolding answers.reads answers.numberOf
 returns-6 c = let H = rw (c .before .before .before .before .before .before .before .n .given .1) at (c .before .before .before .before .before .before .before .before .before .before .read-vector .ensures) in
-    full-list _ _ (H .makes) (H .count) (c .before .before .before .before .before .if2 .left) (c .before .before .copy-out .ensures)
+    full-list _ _ (H .makes) (H .count) (c .before .before .before .before .before .if2 .left) (c .before .before .copy-numbers .ensures)
 
 pub from-newick-spec : {M : Type 1} → statement M
 from-newick-spec =
@@ -101,8 +101,8 @@ from-newick-spec =
     enum-known-n
     refuse-requires-5
     returns-2
-    slice-aggregate-copy-out
-    copy-out-requires
+    slice-aggregate-copy-numbers
+    copy-numbers-requires
     returns-3
     returns-4
     returns-5

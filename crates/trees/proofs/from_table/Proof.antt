@@ -72,11 +72,11 @@ returns-4 c = let read = rw (c .before .before .enum-told .given .1) at (c .befo
     let entries = vector-count _ _ (omega arith) rows (read .0) in
     short-room _ _ (rows-accepted _ _ (omega arith) (c .before .before .before .before .before .before .before .before .if2 .left) rows (read .0)) entries (c .before .if4 .taken) (c .refuse7 .ensures)
 
-slice-aggregate-copy-out : tie.Need-slice-aggregate-copy-out
-slice-aggregate-copy-out c = search needs
+slice-aggregate-copy-numbers : tie.Need-slice-aggregate-copy-numbers
+slice-aggregate-copy-numbers c = search needs
 
-copy-out-requires : tie.Need-copy-out-requires
-copy-out-requires c κs = search needs
+copy-numbers-requires : tie.Need-copy-numbers-requires
+copy-numbers-requires c κs = search needs
 
 returns-5 : tie.Need-returns-5
 unfolding answers.reads answers.numberOf
@@ -103,7 +103,7 @@ returns-8 c = let args = c .before .before .before .before .before .before .befo
     let rows = c .before .before .before .before .before .before .before .before .before .before .before .if3 .left in
     let entries = vector-count _ _ (omega arith) rows (read .0) in
     let front = read-front (args .leaves) (args .rows .now) _ _ (read .1) entries in
-    full-list _ _ (rows-accepted _ _ (omega arith) (c .before .before .before .before .before .before .before .before .before .before .before .before .if2 .left) rows (read .0)) entries (c .before .before .before .before .before .if4 .left) (rw front at (c .before .before .copy-out .ensures))
+    full-list _ _ (rows-accepted _ _ (omega arith) (c .before .before .before .before .before .before .before .before .before .before .before .before .if2 .left) rows (read .0)) entries (c .before .before .before .before .before .if4 .left) (rw front at (c .before .before .copy-numbers .ensures))
 
 pub from-table-spec : {M : Type 1} → statement M
 from-table-spec =
@@ -128,8 +128,8 @@ from-table-spec =
     enum-told
     refuse-requires-7
     returns-4
-    slice-aggregate-copy-out
-    copy-out-requires
+    slice-aggregate-copy-numbers
+    copy-numbers-requires
     returns-5
     returns-6
     returns-7

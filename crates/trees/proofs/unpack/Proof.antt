@@ -15,7 +15,7 @@ use Rattle.record.proofs.leaf_count.Reads as leaf-count-reads
 use Rattle.record.proofs.record_length.Reads as record-length-reads
 use Rattle.trees.proofs.refuse.Reads as refuse-reads
 use Rattle.unpacking.proofs.entries_of.Reads as entries-of-reads
-use Rattle.vector.proofs.copy_out.Reads as copy-out-reads
+use Rattle.lists.proofs.copy_numbers.Reads as copy-numbers-reads
 
 refuse-requires : tie.Need-refuse-requires
 refuse-requires c κs = search needs
@@ -84,11 +84,11 @@ returns-5 c = let H = headed-of _ _ _ (c .before .before .before .before .before
     let h = rw (c .before .before .enum-told2 .given .1) at (c .before .before .before .before .before .entries-of .ensures) in
     short-room _ _ (record-accepted _ _ H (h .1) (h .2)) (length-entries _ _) (c .before .if5 .taken) (c .refuse7 .ensures)
 
-slice-aggregate-copy-out : tie.Need-slice-aggregate-copy-out
-slice-aggregate-copy-out c = search needs
+slice-aggregate-copy-numbers : tie.Need-slice-aggregate-copy-numbers
+slice-aggregate-copy-numbers c = search needs
 
-copy-out-requires : tie.Need-copy-out-requires
-copy-out-requires c κs = search needs
+copy-numbers-requires : tie.Need-copy-numbers-requires
+copy-numbers-requires c κs = search needs
 
 returns-6 : tie.Need-returns-6
 unfolding answers.reads answers.numberOf
@@ -109,7 +109,7 @@ returns-8 : tie.Need-returns-8
 unfolding answers.reads answers.numberOf
 returns-8 c = let H = headed-of _ _ _ (c .before .before .before .before .before .before .before .before .before .before .before .before .before .before .before .before .if1 .left) (c .before .before .before .before .before .before .before .before .before .before .before .before .before .before .before .leaf-count .ensures) (c .before .before .before .before .before .before .before .before .before .before .before .before .before .before .if2 .left) (c .before .before .before .before .before .before .before .before .before .before .before .before .before .if3 .left) (c .before .before .before .before .before .before .before .before .before .before .before .before .record-length .ensures) (c .before .before .before .before .before .before .before .before .before .before .before .if4 .left) in
     let h = rw (c .before .before .before .before .before .before .enum-told2 .given .1) at (c .before .before .before .before .before .before .before .before .before .entries-of .ensures) in
-    full-list _ _ (record-accepted _ _ H (h .1) (h .2)) (length-entries _ _) (c .before .before .before .before .before .if5 .left) (rw (h .0) at (c .before .before .copy-out .ensures))
+    full-list _ _ (record-accepted _ _ H (h .1) (h .2)) (length-entries _ _) (c .before .before .before .before .before .if5 .left) (rw (h .0) at (c .before .before .copy-numbers .ensures))
 
 pub unpack-spec : {M : Type 1} → statement M
 unpack-spec =
@@ -135,8 +135,8 @@ unpack-spec =
     enum-told-2
     refuse-requires-7
     returns-5
-    slice-aggregate-copy-out
-    copy-out-requires
+    slice-aggregate-copy-numbers
+    copy-numbers-requires
     returns-6
     returns-7
     same-length

@@ -1,11 +1,11 @@
 -- `number_leaves` meets its contract: the leaves below c have their numbers.
 use mathlib.Core.Path.{refl}
 use Prim.Native.Nat.{_-_}
-use Rattle.vector.specs.Leaves.{Leaves, leaves-next}
+use Rattle.lists.specs.Leaves.{Leaves, leaves-next}
 use native.Mathlib.Omega.{arith}
 use borrow.Author.Needs.{needs}
-use Rattle.vector.proofs.number_leaves.Statement.{statement}
-use Rattle.vector.proofs.number_leaves.Tie as tie
+use Rattle.lists.proofs.number_leaves.Statement.{statement}
+use Rattle.lists.proofs.number_leaves.Tie as tie
 
 abbrev Inv-loop : tie.InvT-loop
 Inv-loop number₀ n c₀ number c = Leaves n number₀ number c

@@ -1,9 +1,9 @@
--- `record::copy_bytes` meets its contract: the first k bytes are copied.
+-- `copy_bytes` meets its contract: the first k bytes are copied.
 use borrow.Author.Needs.{needs}
 use Prim.Native.Nat.{_-_}
-use Rattle.vector.specs.Front.{Copied, copied-start, copied-next, copied-end}
-use Rattle.record.proofs.copy_bytes.Statement.{statement}
-use Rattle.record.proofs.copy_bytes.Tie as tie
+use Rattle.lists.specs.Front.{Copied, copied-start, copied-next, copied-end}
+use Rattle.lists.proofs.copy_bytes.Statement.{statement}
+use Rattle.lists.proofs.copy_bytes.Tie as tie
 
 abbrev Inv-loop : tie.InvT-loop
 Inv-loop src n out₀ k₀ out k = Copied src out₀ out n k
@@ -20,8 +20,8 @@ shared-slice-read-out c = search needs
 slice-write-out : tie.Need-slice-write-out Inv-loop μ-loop
 slice-write-out c = search needs
 
-add-k : tie.Need-add-k Inv-loop μ-loop
-add-k c = search needs
+add-i : tie.Need-add-i Inv-loop μ-loop
+add-i c = search needs
 
 loop-less : tie.Need-loop-less Inv-loop μ-loop
 loop-less c = search needs
@@ -44,7 +44,7 @@ copy-bytes-spec =
     loop-holds
     shared-slice-read-out
     slice-write-out
-    add-k
+    add-i
     loop-less
     loop-again
     same-length
