@@ -1,5 +1,5 @@
 -- The ends of a call: refused before room is looked at, too little room, done. Every promise is kept by one of these.
--- Main results: refused-early, short-room, full-room, full-list, full-lists; for callers: said.
+-- Main results: refused-early, short-room, full-room, full-list, full-lists; for callers: said; handed-on.
 use mathlib.Core.List.{List, _++_}
 use mathlib.Core.Path.{_≡_, refl, sym, ap, ap₂, _∙_}
 use Prim.Native.Nat.{ℕ, min, _≤_, _<_}
@@ -49,3 +49,11 @@ pub said : {L W : Type 0} (B : Buffers L W) (m : Making W) {old new : L} {a : An
     → (reads a ≡ answers (makes B m) m old) × (new ≡ holds (makes B m) m old)
 said B m {old} K =
     (K .answered ∙ ap (λ x. answers (makes B m) x old) (sym (K .made-so)), K .held ∙ ap (λ x. holds (makes B m) x old) (sym (K .made-so)))
+
+-- what a function promises that ends a call with a list, as the promise of the call that makes this list
+pub handed-on : {A : Type 0} (Makes : Making (List A) → Type 0) {xs : List A} {old new : List A} {a : Answer} → Makes (made xs)
+    → Keeps (makes list (made xs)) old a new → Keeps (record { buffers = list; short = 3; Makes = Makes }) old a new
+unfolding answers holds
+handed-on Makes {xs} h K =
+    let S = said list (made xs) K in
+    record { what = made xs; made-so = h; answered = S .0; held = S .1 }

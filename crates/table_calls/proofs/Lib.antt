@@ -1,0 +1,2 @@
+pub mod FromTable
+pub mod ToTable

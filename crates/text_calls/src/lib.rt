@@ -1,0 +1,43 @@
+// The public calls between a vector and a Newick text.
+use answering::hand_out;
+use answering::refuse;
+use rules::Answer;
+use rules::Kind;
+use texts::Given;
+use vector_calls::check;
+ghost use Rattle.rules.specs.Promise.{Keeps};
+ghost use Rattle.rules.specs.CallToNewick.{to-newick-call};
+ghost use Rattle.rules.specs.CallFromNewick.{from-newick-call};
+
+/// Vector to Newick: 1, 4, 3.
+pub fn to_newick(v: &[u16], out: &mut [u8]) -> Answer
+    ensures { λ r. ⌜ Keeps (to-newick-call (now (v .entry))) (now (out .entry)) r (now (out .exit)) ⌝ }
+{
+    match check(v) {
+        Answer::Refused(why) => Answer::Refused(why),
+        Answer::Done(_) => {
+            let signs = texts::text_length(v.len());
+            if out.len() < signs {
+                return refuse(Kind::Room, signs);
+            }
+            texts::write_tree(v, out);
+            Answer::Done(signs)
+        }
+    }
+}
+
+/// Newick to vector: 2 (above 6,056 bytes), 8, 1, 9, 3.
+pub fn from_newick(text: &[u8], out: &mut [u16]) -> Answer
+    ensures { λ r. ⌜ Keeps (from-newick-call (now (text .entry))) (now (out .entry)) r (now (out .exit)) ⌝ }
+{
+    if 6056 < text.len() {
+        return refuse(Kind::InputLength, 6056);
+    }
+    let mut vector = [0u16; 1024];
+    match texts::read_vector(text, &mut vector) {
+        Given::Breaks(place) => refuse(Kind::Grammar, place),
+        Given::TooMany => refuse(Kind::LeafCount, 0),
+        Given::Label(place) => refuse(Kind::Label, place),
+        Given::Entries(n) => hand_out(&vector, n, out),
+    }
+}
