@@ -1,5 +1,5 @@
 use Rattle.rules.specs.Answer as answers
-use Rattle.laws.specs.Kept.{refused-early, short-room, full-list}
+use Rattle.accepting.specs.Kept.{refused-early, short-room, full-list}
 use Rattle.rules.specs.CallFromNewick.{too-long}
 use Rattle.texts.specs.Given.{held-there}
 use native.Mathlib.Omega.{arith}
