@@ -13,7 +13,7 @@ use borrow.Author.Tests.{ltb-true, ltb-false, eqb-true, eqb-false}
 use Rattle.rules.specs.Vector.{entry, bound, fault}
 use Rattle.rules.specs.Answer.{Making, refuses}
 use Rattle.rules.specs.Guards.{refuseCount}
-use Rattle.laws.specs.Guards.{no-leaf, many-leaves, some-leaves}
+use Rattle.accepting.specs.Guards.{no-leaf, many-leaves, some-leaves}
 use Rattle.demands.specs.Given.{First, CountWrong, CountRight, Above, WithinBounds}
 use Rattle.demands.specs.FirstPlace.{Found, found-given, found-none, above-found}
 

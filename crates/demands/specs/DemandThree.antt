@@ -27,7 +27,7 @@ use Rattle.rows.specs.Clades.{rows-clades}
 use Rattle.record_laws.specs.Inverse.{length-entries}
 use Rattle.grammar.specs.Complete.{text-unique}
 use Rattle.grammar.specs.Faults.{no-fault-leaves}
-use Rattle.laws.specs.FromTable.{rows-accepted}
+use Rattle.accepting.specs.FromTable.{rows-accepted}
 use Rattle.laws.specs.OneToOne.{every-tree, same-clades-same-vector}
 use Rattle.demands.specs.Given.{CountWrong, CountRight, WithinBounds, First, Above, Unfit, labelNumbers, labelPlace, FirstRow, RowWrong}
 use Rattle.demands.specs.FirstPlace.{Found, label-found, padding-found}

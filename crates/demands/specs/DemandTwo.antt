@@ -28,7 +28,7 @@ use Rattle.record_laws.specs.Inverse.{unpack-record}
 use Rattle.grammar.specs.Faults.{leaves-no-fault, leaves-count}
 use Rattle.grammar.specs.Length.{text-length, text-length-most}
 use Rattle.laws.specs.TreeOf.{tree-leaves, vector-again}
-use Rattle.laws.specs.FromTable.{rows-accepted}
+use Rattle.accepting.specs.FromTable.{rows-accepted}
 use Rattle.demands.specs.Given.{CountRight, WithinBounds}
 use Rattle.demands.specs.Law.{made-accepted, done-written}
 use Rattle.demands.specs.LawVector.{VectorRefused, vector-cases, vector-passes, vector-valid}

@@ -14,7 +14,7 @@ use Rattle.rules.specs.Table.{tableOf}
 use Rattle.rules.specs.Newick.{textOf}
 use Rattle.rules.specs.Record.{recordOf}
 use Rattle.rules.specs.Shuffle.{renamed, newOf}
-use Rattle.laws.specs.Answers.{reads-unique}
+use Rattle.accepting.specs.Answers.{reads-unique}
 use Rattle.demands.specs.Calls.{Name, Check, ToTable, FromTable, ToNewick, FromNewick, Pack, Unpack, Shuffle, Relabel, Public, checks, to-table, from-table, to-newick, from-newick, packs, unpacks, shuffles, relabels, the, Lent, Kept}
 use Rattle.demands.specs.Relabelled.{unmoved, unmoved-permutes, relabel-makes, shuffle-makes}
 use Rattle.demands.specs.DemandTwo.{Vector, accepted-exactly, makes-table, makes-text, makes-record, table-back, text-back, record-back, writes}

@@ -14,7 +14,7 @@ use Rattle.rules.specs.declared.Answer.{Answer}
 use Rattle.rules.specs.declared.Answer.the-variants.{Done, Refused}
 use Rattle.rules.specs.Answer.{done, refused, numberOf, reads, Making, made, refuses}
 use Rattle.rules.specs.Promise.{Buffers, Call, makes, answers, holds, Keeps}
-use Rattle.laws.specs.Answers.{done-same, done-not-refused, reads-unique}
+use Rattle.accepting.specs.Answers.{done-same, done-not-refused, reads-unique}
 
 -- nothing is wrong with the input
 abbrev pub Accepted : (ℕ → ℕ → Type 0) → Type 0

@@ -16,7 +16,7 @@ use Rattle.rules.specs.Guards.{refuseAt}
 use Rattle.rules.specs.CallFromNewick.{FromText, too-long, breaks, reads-as, fromLabels, from-newick-call}
 use Rattle.grammar.specs.Labels.{text-label-count}
 use Rattle.grammar.specs.Unique.{from-text-total, from-text-unique}
-use Rattle.laws.specs.Guards.{refuse-at, pass-at}
+use Rattle.accepting.specs.Guards.{refuse-at, pass-at}
 use Rattle.demands.specs.Given.{First, CountWrong, CountRight, Unfit, labelNumbers, labelPlace}
 use Rattle.demands.specs.FirstPlace.{Found, found-given, label-found}
 use Rattle.demands.specs.Cases.{count-cases, count-given, count-passes}

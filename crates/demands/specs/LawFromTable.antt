@@ -17,7 +17,7 @@ use Rattle.rules.specs.CallFromTable.{fromTable, from-table-call}
 use Rattle.clades.specs.Size.{size-below}
 use Rattle.table_laws.specs.Flat.{rowsOf-length}
 use Rattle.rows.specs.Forest.{rows-make-a-tree}
-use Rattle.laws.specs.Guards.{wrong-length, right-length}
+use Rattle.accepting.specs.Guards.{wrong-length, right-length}
 use Rattle.demands.specs.Given.{CountWrong, CountRight, FirstRow, RowWrong, parent-wrong, child-not-below, child-named}
 use Rattle.demands.specs.FirstWrongRow.{row-found, row-unique}
 use Rattle.demands.specs.Cases.{count-cases, count-given, count-passes, equal-cases}

@@ -15,7 +15,7 @@ use Rattle.rules.specs.Answer.{numberOf, Made, made, refuses}
 use Rattle.rules.specs.Promise.{list}
 use Rattle.rules.specs.Guards.{refuseAt, refuseLength, fromVector}
 use Rattle.rules.specs.CallRelabel.{relabel, relabel-call}
-use Rattle.laws.specs.Guards.{wrong-length, right-length, refuse-at}
+use Rattle.accepting.specs.Guards.{wrong-length, right-length, refuse-at}
 use Rattle.demands.specs.Given.{First, CountRight, WithinBounds, Unfit}
 use Rattle.demands.specs.FirstPlace.{Found, found-given, unfit-found}
 use Rattle.demands.specs.Cases.{equal-cases}

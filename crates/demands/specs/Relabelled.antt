@@ -27,7 +27,7 @@ use Rattle.shuffle_laws.specs.Permutation.{Permutes, permutes, no-fault, entry-
 use Rattle.shuffle_laws.specs.Renaming.{renamed-below, renamed-clades}
 use Rattle.shuffle_laws.specs.Taken.{new-permutes}
 use Rattle.shuffle_laws.specs.Shuffled.{shuffled-ordered}
-use Rattle.laws.specs.Guards.{right-length, pass-at}
+use Rattle.accepting.specs.Guards.{right-length, pass-at}
 use Rattle.laws.specs.TreeOf.{tree-leaves}
 use Rattle.laws.specs.OneToOne.{every-tree, only-vector}
 use Rattle.demands.specs.LawVector.{vector-passes}

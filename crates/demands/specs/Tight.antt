@@ -23,7 +23,7 @@ use Rattle.rules.specs.Newick.{textOf}
 use Rattle.rules.specs.Record.{recordOf}
 use Rattle.rules.specs.Shuffle.{renamed, newOf}
 use Rattle.rules.specs.CallCheck.{check}
-use Rattle.laws.specs.Answers.{done-not-refused}
+use Rattle.accepting.specs.Answers.{done-not-refused}
 use Rattle.demands.specs.Calls.{Name, Public, to-table, the, Lent}
 use Rattle.demands.specs.Law.{done-made}
 use Rattle.demands.specs.DemandOne.{wanted, done-exactly, every-input-answered, promise-unique}

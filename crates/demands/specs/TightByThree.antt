@@ -17,7 +17,7 @@ use Rattle.rules.specs.Tree.{Clade, has, treeOf}
 use Rattle.rules.specs.Table.{tableOf}
 use Rattle.rules.specs.Newick.{textOf}
 use Rattle.rules.specs.Record.{recordOf}
-use Rattle.laws.specs.Answers.{reads-unique}
+use Rattle.accepting.specs.Answers.{reads-unique}
 use Rattle.demands.specs.Calls.{Lent}
 use Rattle.demands.specs.DemandTwo.{Vector, table-back, text-back, record-back}
 use Rattle.demands.specs.Leads.{Input, vector, table, text, packed, Leads, callOf, Fits, leads-done}

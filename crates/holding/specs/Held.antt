@@ -15,8 +15,8 @@ use Rattle.rules.specs.Guards.{refuseIf, refuseCount}
 use Rattle.rules.specs.CallUnpack.{unpack}
 use Rattle.rules.specs.Listing.{then, lineFor, firstRecord, lines, listing, mostRecords, listingOf}
 use Rattle.basics.specs.Cases.{by-lt, by-eq}
-use Rattle.laws.specs.Guards.{no-leaf, many-leaves, some-leaves, refuse-if, pass-if}
-use Rattle.laws.specs.FromRecord.{under-two-bytes, no-leaf-record, many-leaf-record, wrong-record}
+use Rattle.accepting.specs.Guards.{no-leaf, many-leaves, some-leaves, refuse-if, pass-if}
+use Rattle.accepting.specs.FromRecord.{under-two-bytes, no-leaf-record, many-leaf-record, wrong-record}
 use Rattle.holding.specs.Wanted.{bytesWanted, wanted-begun, wanted-no-leaf, wanted-many-leaves, wanted-record, count-front, wanted-front, wanted-within}
 
 -- the bytes of the input that are held

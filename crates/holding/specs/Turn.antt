@@ -19,7 +19,7 @@ use Rattle.rules.specs.Guards.{refuseIf, refuseAt, refuseCount, refuseLength}
 use Rattle.rules.specs.Promise.{answers, holds, Keeps}
 use Rattle.rules.specs.CallUnpack.{fromEntries, unpack, unpack-call}
 use Rattle.rules.specs.Listing.{lineOf, then, lineFor}
-use Rattle.laws.specs.Answers.{done-same, done-not-refused}
+use Rattle.accepting.specs.Answers.{done-same, done-not-refused}
 use Rattle.basics.specs.Bools.{or-no}
 use Rattle.basics.specs.Fault.{no-fault-valid}
 use Rattle.record_laws.specs.Inverse.{Packs, length-entries}

@@ -15,7 +15,7 @@ use Rattle.rules.specs.Shuffle.{renamed, newOf, permutationFault}
 use Rattle.rules.specs.Answer.{made, refuses}
 use Rattle.rules.specs.CallShuffle.{shuffle}
 use Rattle.rules.specs.CallRelabel.{relabel}
-use Rattle.laws.specs.Guards.{wrong-length, right-length, refuse-at, pass-at}
+use Rattle.accepting.specs.Guards.{wrong-length, right-length, refuse-at, pass-at}
 use Rattle.laws.specs.OneToOne.{every-tree}
 use Rattle.laws.specs.TreeOf.{tree-leaves}
 use Rattle.shuffle_laws.specs.Permutation.{permutes}

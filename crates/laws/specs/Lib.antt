@@ -22,15 +22,9 @@
 -- "The result is the permutation new and the vector of the relabelled tree, which has v(i) < i for all i >= 1"
 --     shuffle_laws Taken.new-permutes, Shuffled.shuffled-ordered; "leaf x becoming p(x)": Renaming.renamed-below, renamed-clades.
 -- What a shortened vector means (a later request): building Shortened.valid-take, Shortened.shortened-tree, shortened-clades.
--- What comes back: Answers.reads-unique; the ends of a call: Kept. When a call refuses: Guards, FromVector, FromTable, FromRecord.
-pub mod Answers
-pub mod Guards
-pub mod FromVector
-pub mod FromTable
-pub mod FromRecord
+-- When a call refuses and what comes back: accepting.
 pub mod TreeOf
 pub mod FactOne
 pub mod FactTwo
 pub mod OneToOne
 pub mod Shortened
-pub mod Kept

@@ -16,9 +16,9 @@ use Rattle.rules.specs.Newick.{textOf}
 use Rattle.rules.specs.Answer.{done, reads, made}
 use Rattle.rules.specs.Promise.{list, answers, holds, Keeps}
 use Rattle.rules.specs.CallToNewick.{toText, to-newick-call}
-use Rattle.laws.specs.Answers.{done-same, done-not-refused}
-use Rattle.laws.specs.FromVector.{within-bounds}
-use Rattle.laws.specs.Kept.{said}
+use Rattle.accepting.specs.Answers.{done-same, done-not-refused}
+use Rattle.accepting.specs.FromVector.{within-bounds}
+use Rattle.accepting.specs.Kept.{said}
 use Rattle.basics.specs.Fault.{valid-no-fault}
 use Rattle.text_writer.specs.Output.{Wrote}
 use Rattle.line.specs.Longest.{text-at-most}

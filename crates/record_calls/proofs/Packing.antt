@@ -11,7 +11,7 @@ use Rattle.rules.specs.Record.{leafCount, recordLength, recordOf}
 use Rattle.rules.specs.Answer.{made, refuses}
 use Rattle.rules.specs.CallPack.{pack}
 use Rattle.rules.specs.CallUnpack.{unpack}
-use Rattle.laws.specs.FromRecord.{Headed, wrong-record, padding-refused}
+use Rattle.accepting.specs.FromRecord.{Headed, wrong-record, padding-refused}
 use Rattle.record_laws.specs.Width.{record-length-least}
 use Rattle.vector_calls.proofs.Checked.{Sound, sound-made}
 

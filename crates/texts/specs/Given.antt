@@ -15,7 +15,7 @@ use Rattle.rules.specs.Newick.{labelsOf, labelFault}
 use Rattle.rules.specs.Answer.{Made, made, refuses}
 use Rattle.rules.specs.Guards.{refuseAt}
 use Rattle.rules.specs.CallFromNewick.{fromLabels, FromText, reads-as}
-use Rattle.laws.specs.Guards.{many-leaves, some-leaves, refuse-at, pass-at}
+use Rattle.accepting.specs.Guards.{many-leaves, some-leaves, refuse-at, pass-at}
 use Rattle.laws.specs.OneToOne.{every-tree}
 use Rattle.grammar.specs.Labels.{text-label-count}
 use Rattle.grammar.specs.Pairs.{pairsFrom, size-pairs}

@@ -2,7 +2,7 @@
 ghost use mathlib.Core.Path.{_≡_};
 ghost use Prim.Native.Nat.{_≤_};
 ghost use lib.ListN.{length, take};
-ghost use Rattle.laws.specs.FromRecord.{Headed};
+ghost use Rattle.accepting.specs.FromRecord.{Headed};
 ghost use Rattle.vector.specs.Fault.{firstFault};
 ghost use Rattle.unpacking.specs.Holding.{Holds};
 

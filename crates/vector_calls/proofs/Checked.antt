@@ -17,9 +17,9 @@ use Rattle.rules.specs.declared.Refusal.{Refusal}
 use Rattle.rules.specs.declared.Answer.{Answer}
 use Rattle.rules.specs.declared.Answer.the-variants.{Done, Refused}
 use Rattle.rules.specs.Guards.{fromVector}
-use Rattle.laws.specs.Answers.{done-not-refused}
-use Rattle.laws.specs.Kept.{refused-early}
-use Rattle.laws.specs.FromVector.{no-entry, many-entries, above-bound, within-bounds}
+use Rattle.accepting.specs.Answers.{done-not-refused}
+use Rattle.accepting.specs.Kept.{refused-early}
+use Rattle.accepting.specs.FromVector.{no-entry, many-entries, above-bound, within-bounds}
 use Rattle.basics.specs.Fault.{no-fault-valid, valid-no-fault}
 use Rattle.vector.specs.Fault.{firstFault, first-fault-some, first-fault-none}
 

@@ -4,7 +4,7 @@ use mathlib.Core.Path.{refl}
 use borrow.Author.Needs.{needs}
 use lib.Seq.{length-take-le}
 use Rattle.rules.specs.Answer as answers
-use Rattle.laws.specs.Kept.{short-room, full-list}
+use Rattle.accepting.specs.Kept.{short-room, full-list}
 use Rattle.answering.proofs.hand_out.Statement.{statement}
 use Rattle.answering.proofs.hand_out.Tie as tie
 

@@ -3,7 +3,7 @@ use borrow.Author.Needs.{needs}
 use Rattle.rules.specs.Answer as answers
 use mathlib.Core.Path.{refl}
 use Rattle.rules.specs.CallShuffle as calls
-use Rattle.laws.specs.Kept.{short-room, full-lists}
+use Rattle.accepting.specs.Kept.{short-room, full-lists}
 use Rattle.vector_calls.proofs.Checked.{checked-sound, refused-alike}
 use Rattle.label_calls.proofs.Renaming.{shuffle-made, new-count, shuffled-count}
 use Rattle.label_calls.proofs.shuffle.Statement.{statement}

@@ -1,4 +1,4 @@
-use Rattle.laws.specs.Kept.{short-room, full-list}
+use Rattle.accepting.specs.Kept.{short-room, full-list}
 use native.Mathlib.Omega.{arith}
 use borrow.Author.Needs.{needs}
 use mathlib.Core.Path.{refl, sym, _∙_}

@@ -1,9 +1,9 @@
-use Rattle.laws.specs.Kept.{refused-early, short-room, full-list}
+use Rattle.accepting.specs.Kept.{refused-early, short-room, full-list}
 use native.Mathlib.Omega.{arith}
 use borrow.Author.Needs.{needs}
 use mathlib.Core.Path.{refl}
 use Rattle.rules.specs.Answer as answers
-use Rattle.laws.specs.FromRecord.{under-two-bytes, no-leaf-record, many-leaf-record, entry-refused, padding-refused, record-accepted}
+use Rattle.accepting.specs.FromRecord.{under-two-bytes, no-leaf-record, many-leaf-record, entry-refused, padding-refused, record-accepted}
 use Rattle.record_laws.specs.Inverse.{length-entries}
 use Rattle.record_laws.specs.Width.{record-length-least}
 use Rattle.record_calls.proofs.Packing.{headed-of, length-fails, some-byte}

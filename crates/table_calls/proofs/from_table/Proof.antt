@@ -1,9 +1,9 @@
 -- `from_table` meets its contract: what is found of the rows, and where they are accepted the room.
-use Rattle.laws.specs.Kept.{refused-early, handed-on}
+use Rattle.accepting.specs.Kept.{refused-early, handed-on}
 use native.Mathlib.Omega.{arith}
 use borrow.Author.Needs.{needs}
 use Rattle.rules.specs.Answer as answers
-use Rattle.laws.specs.FromTable.{no-leaves, too-many-leaves, wrong-rows, row-refused, rows-accepted}
+use Rattle.accepting.specs.FromTable.{no-leaves, too-many-leaves, wrong-rows, row-refused, rows-accepted}
 use Rattle.table_calls.proofs.FromTable.{vector-count, read-front}
 use Rattle.table_calls.proofs.from_table.Statement.{statement}
 use Rattle.table_calls.proofs.from_table.Tie as tie

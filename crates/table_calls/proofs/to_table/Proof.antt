@@ -2,7 +2,7 @@ use mathlib.Core.Path.{refl}
 use native.Mathlib.Omega.{arith}
 use borrow.Author.Needs.{needs}
 use Rattle.rules.specs.Answer as answers
-use Rattle.laws.specs.Kept.{short-room, full-list}
+use Rattle.accepting.specs.Kept.{short-room, full-list}
 use Rattle.rules.specs.CallToTable as calls
 use Rattle.vector_calls.proofs.Checked.{checked-sound, refused-alike}
 use Rattle.table_calls.proofs.ToTable.{table-made, table-count}

@@ -1,6 +1,6 @@
 -- `from_newick` meets its contract: what is told of the text, and where it has a vector the room.
 use Rattle.rules.specs.Answer as answers
-use Rattle.laws.specs.Kept.{refused-early, handed-on}
+use Rattle.accepting.specs.Kept.{refused-early, handed-on}
 use Rattle.rules.specs.CallFromNewick.{too-long}
 use Rattle.texts.specs.Given.{held-there}
 use native.Mathlib.Omega.{arith}

@@ -1,4 +1,4 @@
-use Rattle.laws.specs.Kept.{short-room, full-list}
+use Rattle.accepting.specs.Kept.{short-room, full-list}
 use mathlib.Core.Path.{refl, sym, _∙_}
 use Rattle.rules.specs.Answer as answers
 use Rattle.rules.specs.CallToNewick as calls

@@ -2,7 +2,7 @@ use native.Mathlib.Omega.{arith}
 use borrow.Author.Needs.{needs}
 use mathlib.Core.Path.{refl}
 use Rattle.rules.specs.Answer as answers
-use Rattle.laws.specs.Kept.{refused-early, full-room}
+use Rattle.accepting.specs.Kept.{refused-early, full-room}
 use Rattle.vector_calls.proofs.Checked.{empty-refused, large-refused, fault-refused, passes}
 use Rattle.vector_calls.proofs.check.Statement.{statement}
 use Rattle.vector_calls.proofs.check.Tie as tie

@@ -8,7 +8,7 @@ use lib.ListN.{length}
 use Rattle.rules.specs.Vector.{fault}
 use Rattle.rules.specs.Answer.{Making, refuses}
 use Rattle.rules.specs.Guards.{fromVector}
-use Rattle.laws.specs.Guards.{no-leaf, many-leaves, some-leaves, refuse-at, pass-at}
+use Rattle.accepting.specs.Guards.{no-leaf, many-leaves, some-leaves, refuse-at, pass-at}
 
 -- 1: "leaf count 0 or above 1,024"
 pub no-entry : {W : Type 0} (v : List ℕ) (m : Making W) → length v ≡ 0 → fromVector v m ≡ refuses 1 0

@@ -13,7 +13,7 @@ use Rattle.rules.specs.Vector.{fault}
 use Rattle.rules.specs.Record.{leafCount, recordLength, entriesOf, anySet, padding}
 use Rattle.rules.specs.Answer.{made, refuses}
 use Rattle.rules.specs.CallUnpack.{fromEntries, unpack}
-use Rattle.laws.specs.Guards.{no-leaf, many-leaves, some-leaves, wrong-length, right-length, refuse-if, pass-if, refuse-at, pass-at}
+use Rattle.accepting.specs.Guards.{no-leaf, many-leaves, some-leaves, wrong-length, right-length, refuse-if, pass-if, refuse-at, pass-at}
 
 -- "2 (under 2 bytes, place 2)"
 pub under-two-bytes : (s : List ℕ) → length s < 2 → unpack s ≡ refuses 2 2

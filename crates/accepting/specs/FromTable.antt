@@ -11,7 +11,7 @@ use Rattle.rules.specs.Table.{Fault, rowsOf, tableFault, tableTree}
 use Rattle.rules.specs.Answer.{made, refuses}
 use Rattle.rules.specs.Guards.{refuseFault}
 use Rattle.rules.specs.CallFromTable.{fromTable}
-use Rattle.laws.specs.Guards.{no-leaf, many-leaves, some-leaves, wrong-length, right-length}
+use Rattle.accepting.specs.Guards.{no-leaf, many-leaves, some-leaves, wrong-length, right-length}
 
 pub no-leaves : (n : ℕ) (xs : List ℕ) → n ≡ 0 → fromTable n xs ≡ refuses 1 0
 unfolding fromTable
