@@ -1,12 +1,13 @@
 # The order of the house, read from the text of the files: what tests/house runs. It prints a line for each finding.
 # - A crate depends on its own layer and on lower ones (crates.txt has the layers), names no crate that it does not declare, and
-#   declares none that it does not name. A crate that is handed on by another, through `pub use`, is not named and not declared.
+#   declares none that it does not name. What a declared crate hands on, by `pub use`, need not be declared.
 # - Something refers to each definition and lemma: another one, a file of Rattle, a page of docs/, README.md or a Lib.antt. Samples,
 #   in files named Samples, serve no other proof, and the prover itself reads a proof file's NAME-spec.
 # - A file uses each name that it imports. (Modules imported `as` something also shorten what the prover prints, and are left alone.)
 # - No line has more than 300 signs. Each file has a head comment, but for proof files and Lib.antt, which lists modules.
 # - A must-fail edit has letters, digits and _ in its name, and what it replaces stands once. Each crate below the last layer has one,
 #   unless there is nothing in it to edit.
+# - What a page cites as `crate::item` or as `crate File.name` is there. (docs/CHANGES.md tells of the past, and may cite what is gone.)
 # It reads crates.txt, the pages, the edits, and every .rt and .antt file, in this order, with bytes for signs (LC_ALL=C); then any awk
 # will do. It is text that is read: names are told apart by the file that an import names, and no further.
 
@@ -45,10 +46,22 @@ function read_crates(    k, name) {
 }
 
 # ---- the pages: what stands between backticks is cited, and so is any word with a hyphen.
-function read_page(    k, n, word, quoted) {
+function read_page(    k, n, quoted, text) {
     n = split($0, quoted, /`/)
-    for (k = 2; k <= n; k += 2) cite(quoted[k], "")
+    for (k = 2; k <= n; k += 2) {
+        cite(quoted[k], "")
+        if (quoted[k] ~ /^[a-z0-9_]+ [A-Z][A-Za-z0-9]*\.[^ .]+$/) cite_place(quoted[k])
+    }
     cite($0, "-")
+    for (text = $0; match(text, /[a-z][a-z0-9_]*::[A-Za-z0-9_]+/); text = substr(text, RSTART + RLENGTH))
+        cite_place(substr(text, RSTART, RLENGTH))
+}
+
+function cite_place(what) {
+    if (FILENAME ~ /CHANGES/) return
+    places++
+    place_name[places] = what
+    place_page[places] = FILENAME ":" FNR
 }
 
 function cite(text, sign,    k, n, word) {
@@ -109,9 +122,9 @@ function read_line(    signs, line) {
     if (line ~ /^[ \t]*$/) return
     name_crates(line)
     if (line ~ /^ *(pub )?(ghost )?use /) { read_import(line); return }
+    if (code) read_item(line)
     if (line ~ /^ *(pub )?mod /) return
     if (!code) read_block(line)
-    else if (line ~ /^ *(pub )?(extern "C" )?fn /) bodies[crate]++
     read_words(line)
 }
 
@@ -135,14 +148,27 @@ function name_crates(line,    text, name) {
 function names(name) {
     if (name == crate || !(name in depends) || (crate, name) in named) return
     named[crate, name] = 1
-    if (index(depends[crate] " ", " " name " ") == 0) found(FILENAME ":" FNR, "names " name ", which crates.txt does not give " crate)
+    if (declares(crate, name)) return
+    strays++
+    stray_crate[strays] = crate
+    stray_name[strays] = name
+    stray_place[strays] = FILENAME ":" FNR
 }
+
+function declares(crate, name) { return index(depends[crate] " ", " " name " ") }
 
 # An import: use M.{a, b as c}, use M as d, use m::A. What `pub use` hands on is not for the file itself.
 function read_import(line,    k, n, list, module, item, old) {
-    sub(/^ *(ghost )?use /, "", line)
     sub(/;[ \t]*$/, "", line)
-    if (line ~ /^ *pub /) return
+    if (sub(/^ *pub use /, "", line)) {
+        module = line
+        sub(/::.*/, "", module)
+        sub(/.*::/, "", line)
+        hands_on[crate, module] = 1
+        items[crate, line] = 1
+        return
+    }
+    sub(/^ *(ghost )?use /, "", line)
     if (k = index(line, ".{")) {
         module = substr(line, 1, k - 1)
         list = substr(line, k + 2)
@@ -165,6 +191,15 @@ function read_import(line,    k, n, list, module, item, old) {
         import_name[imports] = item[k]
         import_place[imports] = FILENAME ":" FNR
     }
+}
+
+# An item of Rattle: a function, a type, a constant, a module.
+function read_item(line) {
+    if (!match(line, /^ *(pub )?(extern "C" )?(fn|struct|enum|const|mod) /)) return
+    if (line ~ /fn /) bodies[crate]++
+    line = substr(line, RLENGTH + 1)
+    sub(/[^A-Za-z0-9_].*/, "", line)
+    items[crate, line] = 1
 }
 
 # A definition is its signature and what follows it: lines further in, its clauses, what it unfolds.
@@ -205,6 +240,7 @@ function own_name(text,    k, n) {
     sub(/^pub /, "", text)
     sub(/ .*/, "", text)
     block_names[block] = block_names[block] " " text
+    defined[here, text] = 1
     n = parts_of(text)
     for (k = 1; k <= n; k++) own[block, part[k]] = 1
 }
@@ -235,6 +271,32 @@ function count(word) {
 }
 
 # ---- what can be said when all is read
+function judge_strays(    k, j, n, dep, given) {
+    for (k = 1; k <= strays; k++) {
+        given = 0
+        n = split(depends[stray_crate[k]], dep, " ")
+        for (j = 1; j <= n; j++) if ((dep[j], stray_name[k]) in hands_on) given = 1
+        if (!given) found(stray_place[k], "names " stray_name[k] ", which crates.txt does not give " stray_crate[k])
+    }
+}
+
+function judge_pages(    k, at, crate, name, file) {
+    for (k = 1; k <= places; k++) {
+        if (at = index(place_name[k], "::")) {
+            crate = substr(place_name[k], 1, at - 1)
+            if ((crate, substr(place_name[k], at + 2)) in items) continue
+        } else {
+            at = index(place_name[k], " ")
+            crate = substr(place_name[k], 1, at - 1)
+            file = name = substr(place_name[k], at + 1)
+            sub(/\..*/, "", file)
+            sub(/.*\./, "", name)
+            if ((crate "/specs/" file, name) in defined || (crate "/proofs/" file, name) in defined) continue
+        }
+        found(place_page[k], "cites " place_name[k] ", which is not there")
+    }
+}
+
 function judge_layers(    c, k, n, dep, name, of) {
     for (c = 1; c <= crate_count; c++) {
         name = crates[c]
@@ -299,6 +361,8 @@ FILENAME ~ /\.md$/ { read_page(); next }
 FILENAME ~ /\.edit$/ { read_edit(); next }
 { read_line() }
 END {
+    judge_pages()
+    judge_strays()
     judge_layers()
     judge_imports()
     judge_blocks()
