@@ -7,7 +7,7 @@
 # - No line has more than 300 signs. Each file has a head comment, but for proof files and Lib.antt, which lists modules.
 # - A must-fail edit has letters, digits and _ in its name, and what it replaces stands once. Each crate below the last layer has one,
 #   unless there is nothing in it to edit.
-# - What a page cites as `crate::item` or as `crate File.name` is there. (docs/CHANGES.md tells of the past, and may cite what is gone.)
+# - What a page cites as crate::item, as `crate File.name` or, of an edit, as crate/edit is there. (docs/CHANGES.md tells of the past.)
 # It reads crates.txt, the pages, the edits, and every .rt and .antt file, in this order, with bytes for signs (LC_ALL=C); then any awk
 # will do. It is text that is read: names are told apart by the file that an import names, and no further.
 
@@ -53,6 +53,11 @@ function read_page(    k, n, quoted, text) {
         if (quoted[k] ~ /^[a-z0-9_]+ [A-Z][A-Za-z0-9]*\.[^ .]+$/) cite_place(quoted[k])
     }
     cite($0, "-")
+    n = split($0, quoted, /[ ,;:.|()`]+/)
+    for (k = 1; k <= n; k++) {
+        text = quoted[k]
+        if (sub(/\/[a-z0-9_]+$/, "", text) && text in depends) cite_place(quoted[k])
+    }
     for (text = $0; match(text, /[a-z][a-z0-9_]*::[A-Za-z0-9_]+/); text = substr(text, RSTART + RLENGTH))
         cite_place(substr(text, RSTART, RLENGTH))
 }
@@ -69,7 +74,20 @@ function cite(text, sign,    k, n, word) {
     for (k = 1; k <= n; k++) if (index(word[k], sign) || sign == "") cited[word[k]] = 1
 }
 
-# ---- the must-fail edits: what each replaces, by file
+# ---- the must-fail edits: which there are, and what each replaces, by file
+function list_edits(    k, name, of) {
+    for (k = 1; k < ARGC; k++) {
+        name = ARGV[k]
+        if (!sub(/\.edit$/, "", name)) continue
+        sub(/^crates\//, "", name)
+        of = name
+        sub(/\/.*/, "", of)
+        sub(/.*\//, "", name)
+        edits[of]++
+        there[of "/" name] = 1
+    }
+}
+
 function read_edit() {
     if (FNR == 1) edit_file = ""
     if (/^file: /) {
@@ -285,6 +303,8 @@ function judge_pages(    k, at, crate, name, file) {
         if (at = index(place_name[k], "::")) {
             crate = substr(place_name[k], 1, at - 1)
             if ((crate, substr(place_name[k], at + 2)) in items) continue
+        } else if (place_name[k] ~ /\//) {
+            if (place_name[k] in there) continue
         } else {
             at = index(place_name[k], " ")
             crate = substr(place_name[k], 1, at - 1)
@@ -338,23 +358,17 @@ function judge_blocks(    b, k, j, m, n, name, alive) {
 
 # An edit replaces what stands once in its file. Every layer but the last says by an edit of each crate what its contracts or laws
 # rule out.
-function judge_edits(    k, name, of) {
+function judge_edits(    k) {
     for (k = 1; k <= olds; k++)
         if (old_times[k] != 1) found(old_edit[k], "what it replaces stands " old_times[k] + 0 " times in " old_file[k])
-    for (k = 1; k < ARGC; k++) {
-        if (ARGV[k] !~ /\.edit$/) continue
-        name = of = ARGV[k]
-        sub(/^crates\//, "", of)
-        sub(/\/.*/, "", of)
-        edits[of]++
-        sub(/.*\//, "", name)
-        if (name !~ /^[A-Za-z0-9_]+\.edit$/) found(ARGV[k], "a name of letters, digits and _ is wanted")
-    }
+    for (k = 1; k < ARGC; k++)
+        if (ARGV[k] ~ /\.edit$/ && ARGV[k] !~ /\/[A-Za-z0-9_]+\.edit$/) found(ARGV[k], "a name of letters, digits and _ is wanted")
     for (k = 1; k <= crate_count; k++)
         if (level[layer_of[crates[k]]] < top && bodies[crates[k]] && !edits[crates[k]])
             found("crates/" crates[k], "no must-fail edit")
 }
 
+BEGIN { list_edits() }
 FNR == 1 && FILENAME ~ /\.(rt|antt)$/ { start_file() }
 FILENAME == "crates.txt" { read_crates(); next }
 FILENAME ~ /\.md$/ { read_page(); next }
