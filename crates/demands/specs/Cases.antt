@@ -8,14 +8,14 @@ use mathlib.Core.Path.{_≡_, refl}
 use Prim.Native.Nat.{ℕ, _≤_}
 use native.Mathlib.Omega.{arith}
 use lib.Dec.{eqb, ltb}
-use lib.ListN.{length}
 use borrow.Author.Tests.{ltb-true, ltb-false, eqb-true, eqb-false}
 use Rattle.rules.specs.Vector.{entry, bound, fault}
 use Rattle.rules.specs.Answer.{Making, refuses}
 use Rattle.rules.specs.Guards.{refuseCount}
+use Rattle.searching.specs.First.{Found, first-at, nowhere, found-first, found-none}
 use Rattle.accepting.specs.Guards.{no-leaf, many-leaves, some-leaves}
 use Rattle.demands.specs.Given.{First, CountWrong, CountRight, Above, WithinBounds}
-use Rattle.demands.specs.FirstPlace.{Found, found-given, found-none, above-found}
+use Rattle.demands.specs.FirstPlace.{above-found}
 
 -- the leaf count is wrong or right
 pub count-cases : (n : ℕ) → CountWrong n ⊎ CountRight n
@@ -43,10 +43,10 @@ equal-cases m n = go (eqb m n) refl
 
 -- 4: an entry is above its bound, or all are within
 pub above-given : (v : List ℕ) (i : ℕ) → First (Above v) i → fault 0 v ≡ some i
-above-given v i h = found-given (λ j. j) (Above v) (fault 0 v) (above-found v) i h
+above-given v i h = found-first (above-found v) i h (λ w. refl)
 
 pub within-given : (v : List ℕ) → WithinBounds v → fault 0 v ≡ none
-within-given v h = found-none (λ j. j) (Above v) (fault 0 v) (above-found v) (λ j a. let l = a .1 in omega (arith, h j (a .0)))
+within-given v h = found-none (above-found v) (λ j a. let l = a .1 in omega (arith, h j (a .0)))
 
 -- no entry is above its bound
 none-above : (v : List ℕ) → ((j : ℕ) → Above v j → ⊥) → WithinBounds v
@@ -59,6 +59,6 @@ none-above v h i l = go (ltb (bound i) (entry v i)) refl
 pub above-cases : (v : List ℕ) → ((i : ℕ) × First (Above v) i) ⊎ WithinBounds v
 above-cases v = go (above-found v)
   where
-    go : Found (λ i. i) (Above v) (fault 0 v) → ((i : ℕ) × First (Above v) i) ⊎ WithinBounds v
-    go (inl f) = inl (f .0, f .2)
-    go (inr f) = inr (none-above v (f .1))
+    go : Found (Above v) (λ i w. i) (fault 0 v) → ((i : ℕ) × First (Above v) i) ⊎ WithinBounds v
+    go (first-at i f e) = inl (i, f)
+    go (nowhere e right) = inr (none-above v right)

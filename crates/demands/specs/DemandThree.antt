@@ -4,7 +4,7 @@
 use mathlib.Core.Bool.{Bool, true, false}
 use mathlib.Core.List.{List, []}
 use mathlib.Core.Logic.{_≢_, _⊎_, inl, inr, _↔_}
-use mathlib.Core.Option.{none, some}
+use mathlib.Core.Option.{none}
 use mathlib.Core.Path.{_≡_, refl, sym, _∙_, subst}
 use Prim.Native.Nat.{ℕ, _-_, _*_, _≤_}
 use native.Mathlib.Omega.{arith}
@@ -27,11 +27,12 @@ use Rattle.rows.specs.Clades.{rows-clades}
 use Rattle.record_laws.specs.Inverse.{length-entries}
 use Rattle.grammar.specs.Complete.{text-unique}
 use Rattle.grammar.specs.Faults.{no-fault-leaves}
+use Rattle.searching.specs.First.{Found, first-at, nowhere}
 use Rattle.accepting.specs.FromTable.{rows-accepted}
 use Rattle.laws.specs.OneToOne.{every-tree, same-clades-same-vector}
-use Rattle.demands.specs.Given.{CountWrong, CountRight, WithinBounds, First, Above, Unfit, labelNumbers, labelPlace, FirstRow, RowWrong}
-use Rattle.demands.specs.FirstPlace.{Found, label-found, padding-found}
-use Rattle.demands.specs.FirstWrongRow.{row-found}
+use Rattle.demands.specs.Given.{CountWrong, CountRight, WithinBounds, First, Above, Unfit, labelNumbers, labelPlace}
+use Rattle.demands.specs.FirstPlace.{label-found, padding-found}
+use Rattle.demands.specs.FirstWrongRow.{RowFound, first-row, row-found}
 use Rattle.demands.specs.Cases.{count-cases, equal-cases, above-cases}
 use Rattle.demands.specs.Law.{Accepted, made-accepted, made-not-refuses}
 use Rattle.demands.specs.LawFromTable.{TableRefused, table-1, table-2, table-row, lawful-from-table}
@@ -71,16 +72,14 @@ table-leads n xs w e = go (count-cases n) (equal-cases (length xs) (3 * (n - 1))
     right = made-accepted _ _ _ (lawful-from-table n xs) (fromTable n xs) refl w e
 
     go : CountWrong n ⊎ CountRight n → ((length xs ≡ 3 * (n - 1) → ⊥)) ⊎ (length xs ≡ 3 * (n - 1))
-        → ((t : ℕ) × (k : ℕ) × (tableFault n (rowsOf xs) ≡ some (k, t)) × FirstRow n (rowsOf xs) k t)
-        ⊎ ((tableFault n (rowsOf xs) ≡ none) × ((j l : ℕ) → RowWrong n (rowsOf xs) l j → ⊥))
+        → RowFound n (rowsOf xs)
         → CountRight n × (length (rowsOf xs) ≡ n - 1) × (tableFault n (rowsOf xs) ≡ none) × (w ≡ vectorOf (tableTree n (rowsOf xs)))
     go (inl c) l f = absurd (right 1 0 (table-1 c))
     go (inr c) (inl l) f = absurd (right 2 (3 * (n - 1)) (table-2 c l))
-    go (inr c) (inr l) (inl f) = absurd (right (f .1) (f .0) (table-row c l (f .3)))
-    go (inr c) (inr l) (inr f) =
-        let z : made w ≡ made (vectorOf (tableTree n (rowsOf xs))) =
-        sym e ∙ rows-accepted n xs (c .0) (c .1) l (f .0) in
-        (c, rowsOf-length (n - 1) xs l, f .0, cc)
+    go (inr c) (inr l) (first-at t f g) = absurd (right (f .0 .0) t (table-row c l (first-row n (rowsOf xs) t f)))
+    go (inr c) (inr l) (nowhere g fit) =
+        let z : made w ≡ made (vectorOf (tableTree n (rowsOf xs))) = sym e ∙ rows-accepted n xs (c .0) (c .1) l g in
+        (c, rowsOf-length (n - 1) xs l, g, cc)
 
 led-table : (n : ℕ) (xs w : List ℕ) → Leads (table n xs) w → Led (table n xs) w
 unfolding SameClades
@@ -102,13 +101,13 @@ text-leads s w m (reads-as t a b) e = go (count-cases (length (labelsOf s))) (la
     right = made-accepted _ _ _ (lawful-from-newick s) (fromLabels s t) (reads-as t a b) w e
 
     go : CountWrong (length (labelsOf s)) ⊎ CountRight (length (labelsOf s))
-        → Found (labelPlace s) (Unfit (length (labelsOf s)) (labelNumbers s)) (labelFault (length (labelsOf s)) [] (labelsOf s))
+        → Found (Unfit (length (labelsOf s)) (labelNumbers s)) (λ i w. labelPlace s i) (labelFault (length (labelsOf s)) [] (labelsOf s))
         → (t : Tree) × (n : ℕ) × Text s t × LeavesBelow n t × (n ≤ 1024) × (w ≡ vectorOf t)
     go (inl c) f = absurd (right 1 0 (text-1 a b c))
-    go (inr c) (inl f) = absurd (right 9 (labelPlace s (f .0)) (text-9 a b c (f .2)))
-    go (inr c) (inr f) =
-        let z : made w ≡ made (vectorOf t) = sym e ∙ labels-fit s t c (f .0) in
-        (t, length (labelsOf s), b, no-fault-leaves b (f .0), c .1, cc)
+    go (inr c) (first-at i f g) = absurd (right 9 (labelPlace s i) (text-9 a b c f))
+    go (inr c) (nowhere g fit) =
+        let z : made w ≡ made (vectorOf t) = sym e ∙ labels-fit s t c g in
+        (t, length (labelsOf s), b, no-fault-leaves b g, c .1, cc)
 
 led-text : (s w : List ℕ) → Leads (text s) w → Led (text s) w
 unfolding SameClades

@@ -1,5 +1,5 @@
 -- When a refusal is given, in 01's words: what several calls share. What one call alone refuses stands in its own file, Law*.
--- Main definitions: First, CountWrong, Above, Unfit; RowWrong, FirstRow (5, 6, 7), PaddingSet (10), labelNumbers, labelPlace (9).
+-- Main definitions: CountWrong, Above, Unfit; RowWrong, FirstRow (5, 6, 7), PaddingSet (10), labelNumbers, labelPlace (9).
 use mathlib.Core.List.{List, map}
 use mathlib.Core.Logic.{_≢_, _⊎_}
 use mathlib.Core.Path.{_≡_}
@@ -9,10 +9,8 @@ use Rattle.rules.specs.Vector.{entry, bound}
 use Rattle.rules.specs.Table.{Row}
 use Rattle.rules.specs.Newick.{Placed, labelsOf}
 use Rattle.rules.specs.Record.{bitsOf, total}
-
--- "Of one number, the first place counts."
-abbrev pub First : (ℕ → Type 0) → ℕ → Type 0
-First Wrong i = Wrong i × ((j : ℕ) → j < i → Wrong j → ⊥)
+-- First: "Of one number, the first place counts."
+pub use Rattle.searching.specs.First.{First}
 
 -- 1: "leaf count 0 or above 1,024"
 abbrev pub CountWrong : ℕ → Type 0

@@ -16,9 +16,10 @@ use Rattle.rules.specs.Guards.{refuseAt}
 use Rattle.rules.specs.CallFromNewick.{FromText, too-long, breaks, reads-as, fromLabels, from-newick-call}
 use Rattle.grammar.specs.Labels.{text-label-count}
 use Rattle.grammar.specs.Unique.{from-text-total, from-text-unique}
+use Rattle.searching.specs.First.{Found, first-at, nowhere, found-first}
 use Rattle.accepting.specs.Guards.{refuse-at, pass-at}
 use Rattle.demands.specs.Given.{First, CountWrong, CountRight, Unfit, labelNumbers, labelPlace}
-use Rattle.demands.specs.FirstPlace.{Found, found-given, label-found}
+use Rattle.demands.specs.FirstPlace.{label-found}
 use Rattle.demands.specs.Cases.{count-cases, count-given, count-passes}
 use Rattle.demands.specs.Law.{OfInput, Settled, Lawful}
 use Rattle.demands.specs.Long.{vector-long}
@@ -42,8 +43,7 @@ unfolding fromLabels refuseAt
 labels-unfit s t i c h =
     count-passes (length (labelsOf s)) _ c
     ∙ refuse-at 9 (labelPlace s i) (labelFault (length (labelsOf s)) [] (labelsOf s)) (made (vectorOf t))
-    (found-given (labelPlace s) (Unfit (length (labelsOf s)) (labelNumbers s)) (labelFault (length (labelsOf s)) [] (labelsOf s))
-    (label-found (length (labelsOf s)) (labelsOf s)) i h)
+    (found-first (label-found (length (labelsOf s)) (labelsOf s)) i h (λ w. refl))
 
 pub labels-fit : (s : List ℕ) (t : Tree) → CountRight (length (labelsOf s)) → labelFault (length (labelsOf s)) [] (labelsOf s) ≡ none
     → fromLabels s t ≡ made (vectorOf t)
@@ -77,11 +77,11 @@ settled-from-text s m h = record { of-input = kinds; given = refused-so; total =
     go (reads-as t a b) = at (count-cases (length (labelsOf s))) (label-found (length (labelsOf s)) (labelsOf s))
       where
         at : CountWrong (length (labelsOf s)) ⊎ CountRight (length (labelsOf s))
-            → Found (labelPlace s) (Unfit (length (labelsOf s)) (labelNumbers s)) (labelFault (length (labelsOf s)) [] (labelsOf s))
+            → Found (Unfit (length (labelsOf s)) (labelNumbers s)) (λ i w. labelPlace s i) (labelFault (length (labelsOf s)) [] (labelsOf s))
             → ((k : ℕ) × (p : ℕ) × TextRefused s k p) ⊎ ((ys : List ℕ) × (fromLabels s t ≡ made ys) × (length ys ≡ length (labelsOf s)))
         at (inl c) f = inl (1, 0, text-1 a b c)
-        at (inr c) (inl f) = inl (9, labelPlace s (f .0), text-9 a b c (f .2))
-        at (inr c) (inr f) = inr (vectorOf t, labels-fit s t c (f .0), vector-long t ∙ sym (text-label-count b))
+        at (inr c) (first-at i f e) = inl (9, labelPlace s i, text-9 a b c f)
+        at (inr c) (nowhere e right) = inr (vectorOf t, labels-fit s t c e, vector-long t ∙ sym (text-label-count b))
 
 pub lawful-from-newick : (s : List ℕ) → Lawful (from-newick-call s) (TextRefused s) (length (labelsOf s))
 unfolding numberOf

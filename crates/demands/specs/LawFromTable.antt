@@ -2,8 +2,7 @@
 -- Main definition: TableRefused. Main result: lawful-from-table.
 use mathlib.Core.List.{List}
 use mathlib.Core.Logic.{_≢_, _⊎_, inl, inr}
-use mathlib.Core.Option.{none, some}
-use mathlib.Core.Path.{_≡_, refl, ap, ap₂, _∙_}
+use mathlib.Core.Path.{_≡_, refl, ap, _∙_}
 use Prim.Native.Nat.{ℕ, _-_, _*_}
 use native.Mathlib.Omega.{arith}
 use lib.ListN.{length}
@@ -17,9 +16,10 @@ use Rattle.rules.specs.CallFromTable.{fromTable, from-table-call}
 use Rattle.clades.specs.Size.{size-below}
 use Rattle.table_laws.specs.Flat.{rowsOf-length}
 use Rattle.rows.specs.Forest.{rows-make-a-tree}
+use Rattle.searching.specs.First.{first-at, nowhere}
 use Rattle.accepting.specs.Guards.{wrong-length, right-length}
 use Rattle.demands.specs.Given.{CountWrong, CountRight, FirstRow, RowWrong, parent-wrong, child-not-below, child-named}
-use Rattle.demands.specs.FirstWrongRow.{row-found, row-unique}
+use Rattle.demands.specs.FirstWrongRow.{RowFound, first-row, row-found, row-given}
 use Rattle.demands.specs.Cases.{count-cases, count-given, count-passes, equal-cases}
 use Rattle.demands.specs.Law.{OfInput, Settled, Lawful, lawful-made}
 use Rattle.demands.specs.Long.{vector-long}
@@ -56,34 +56,23 @@ settled-from-table n xs = record {
     kinds k t (table-2 c l) = (InputLength, refl, omega arith)
     kinds k t (table-row c l f) = row-of-input n (rowsOf xs) k t (f .0)
 
-    row-given : (k t : ℕ) → FirstRow n (rowsOf xs) k t → tableFault n (rowsOf xs) ≡ some (k, t)
-    row-given k t h = at (row-found n (rowsOf xs))
-      where
-        at : ((u : ℕ) × (l : ℕ) × (tableFault n (rowsOf xs) ≡ some (l, u)) × FirstRow n (rowsOf xs) l u)
-            ⊎ ((tableFault n (rowsOf xs) ≡ none) × ((j l : ℕ) → RowWrong n (rowsOf xs) l j → ⊥)) → tableFault n (rowsOf xs) ≡ some (k, t)
-        at (inl f) =
-            let e = row-unique n (rowsOf xs) (f .1) (f .0) k t (f .3) h in
-            f .2 ∙ ap₂ (λ (a b : ℕ). some (a, b)) (e .0) (e .1)
-        at (inr f) = absurd (f .1 t k (h .0))
-
     refused-so : (k t : ℕ) → TableRefused n xs k t → whole ≡ refuses k t
     refused-so k t (table-1 c) = count-given n _ c
     refused-so k t (table-2 c l) = count-passes n _ c ∙ wrong-length (3 * (n - 1)) (length xs) _ l
     refused-so k t (table-row c l f) =
-        count-passes n _ c ∙ right-length (3 * (n - 1)) (length xs) _ l ∙ ap (λ o. refuseFault o last) (row-given k t f)
+        count-passes n _ c ∙ right-length (3 * (n - 1)) (length xs) _ l ∙ ap (λ o. refuseFault o last) (row-given n (rowsOf xs) k t f)
 
     go : CountWrong n ⊎ CountRight n → (length xs ≢ 3 * (n - 1)) ⊎ (length xs ≡ 3 * (n - 1))
-        → ((t : ℕ) × (k : ℕ) × (tableFault n (rowsOf xs) ≡ some (k, t)) × FirstRow n (rowsOf xs) k t)
-        ⊎ ((tableFault n (rowsOf xs) ≡ none) × ((j l : ℕ) → RowWrong n (rowsOf xs) l j → ⊥))
+        → RowFound n (rowsOf xs)
         → ((k : ℕ) × (t : ℕ) × TableRefused n xs k t) ⊎ ((ys : List ℕ) × (whole ≡ made ys) × (length ys ≡ n))
     go (inl c) l f = inl (1, 0, table-1 c)
     go (inr c) (inl l) f = inl (2, 3 * (n - 1), table-2 c l)
-    go (inr c) (inr l) (inl f) = inl (f .1, f .0, table-row c l (f .3))
-    go (inr c) (inr l) (inr f) = inr (
+    go (inr c) (inr l) (first-at t f e) = inl (f .0 .0, t, table-row c l (first-row n (rowsOf xs) t f))
+    go (inr c) (inr l) (nowhere e fit) = inr (
       vectorOf (tableTree n (rowsOf xs)),
-      count-passes n _ c ∙ right-length (3 * (n - 1)) (length xs) _ l ∙ ap (λ o. refuseFault o last) (f .0),
+      count-passes n _ c ∙ right-length (3 * (n - 1)) (length xs) _ l ∙ ap (λ o. refuseFault o last) e,
       vector-long (tableTree n (rowsOf xs))
-          ∙ size-below n (tableTree n (rowsOf xs)) (rows-make-a-tree n (rowsOf xs) (f .0) (rowsOf-length (n - 1) xs l) (c .0)),
+          ∙ size-below n (tableTree n (rowsOf xs)) (rows-make-a-tree n (rowsOf xs) e (rowsOf-length (n - 1) xs l) (c .0)),
     )
 
 pub lawful-from-table : (n : ℕ) (xs : List ℕ) → Lawful (from-table-call n xs) (TableRefused n xs) n

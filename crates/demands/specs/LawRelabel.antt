@@ -15,9 +15,10 @@ use Rattle.rules.specs.Answer.{numberOf, Made, made, refuses}
 use Rattle.rules.specs.Promise.{list}
 use Rattle.rules.specs.Guards.{refuseAt, refuseLength, fromVector}
 use Rattle.rules.specs.CallRelabel.{relabel, relabel-call}
+use Rattle.searching.specs.First.{Found, first-at, nowhere, found-first}
 use Rattle.accepting.specs.Guards.{wrong-length, right-length, refuse-at}
 use Rattle.demands.specs.Given.{First, CountRight, WithinBounds, Unfit}
-use Rattle.demands.specs.FirstPlace.{Found, found-given, unfit-found}
+use Rattle.demands.specs.FirstPlace.{unfit-found}
 use Rattle.demands.specs.Cases.{equal-cases}
 use Rattle.demands.specs.Law.{OfInput, Settled, Lawful, lawful-made}
 use Rattle.demands.specs.LawVector.{VectorRefused, vector-given, vector-passes, vector-cases, vector-of-input, vector-valid}
@@ -53,19 +54,19 @@ settled-relabel v p = record {
     refused-so k i (relabel-11 {i = j} c h l f) =
         vector-passes v _ c h ∙ right-length (length v) (length p) _ l
         ∙ refuse-at 11 j (permutationFault (length v) 0 [] p) last
-        (found-given (λ x. x) (Unfit (length v) p) (permutationFault (length v) 0 [] p) (unfit-found (length v) p) j f)
+        (found-first (unfit-found (length v) p) j f (λ w. refl))
 
     go : ((k : ℕ) × (i : ℕ) × VectorRefused v k i) ⊎ (CountRight (length v) × WithinBounds v)
         → (length p ≢ length v) ⊎ (length p ≡ length v)
-        → Found (λ x. x) (Unfit (length v) p) (permutationFault (length v) 0 [] p)
+        → Found (Unfit (length v) p) (λ i w. i) (permutationFault (length v) 0 [] p)
         → ((k : ℕ) × (i : ℕ) × RelabelRefused v p k i)
         ⊎ ((xs : List ℕ) × (fromVector v (refuseLength (length v) (length p) (refuseAt 11 (permutationFault (length v) 0 [] p) last)) ≡ made xs) × (length xs ≡ length v))
     go (inl r) l u = inl (r .0, r .1, relabel-vector (r .2))
     go (inr h) (inl l) u = inl (2, length v, relabel-2 (h .0) (h .1) l)
-    go (inr h) (inr l) (inl u) = inl (11, u .0, relabel-11 (h .0) (h .1) l (u .2))
-    go (inr h) (inr l) (inr u) = inr (
+    go (inr h) (inr l) (first-at i f e) = inl (11, i, relabel-11 (h .0) (h .1) l f)
+    go (inr h) (inr l) (nowhere e right) = inr (
       vectorOf (renamed p (treeOf v)),
-      vector-passes v _ (h .0) (h .1) ∙ right-length (length v) (length p) _ l ∙ ap (λ (o : Option ℕ). refuseAt 11 o last) (u .0),
+      vector-passes v _ (h .0) (h .1) ∙ right-length (length v) (length p) _ l ∙ ap (λ (o : Option ℕ). refuseAt 11 o last) e,
       renamed-long p v (vector-valid v (h .0) (h .1)),
     )
 
