@@ -1,6 +1,6 @@
 -- Demand 1: "Every input gets a finished answer; a refusal carries its number and place from the table, and every lent buffer then holds
 -- what it held." Law has the proofs, for any call; here are the statements, for all public calls.
--- Main definitions: InputRefused, wanted, Right, Given. Main results: every-input-answered, refused-exactly, done-exactly, room-exactly,
+-- Main definitions: InputRefused, wanted, Right, RefusedWith. Main results: every-input-answered, refused-exactly, done-exactly, room-exactly,
 -- one-refusal, refusal-writes-nothing, promise-unique, done-or-refused.
 use mathlib.Core.Logic.{_⊎_, inl, inr, _↔_}
 use mathlib.Core.Path.{_≡_, refl}
@@ -33,8 +33,8 @@ abbrev pub Right : Public → Type 0
 Right c = Accepted (InputRefused c)
 
 -- when a call refuses with a number and a place: one of its input, and last "an output has too few elements", with "elements needed"
-abbrev pub Given : (c : Public) → Lent c → ℕ → ℕ → Type 0
-Given c old number place = InputRefused c number place ⊎ ((number ≡ short c) × (place ≡ wanted c) × (room c old < wanted c) × Right c)
+abbrev pub RefusedWith : (c : Public) → Lent c → ℕ → ℕ → Type 0
+RefusedWith c old number place = InputRefused c number place ⊎ ((number ≡ short c) × (place ≡ wanted c) × (room c old < wanted c) × Right c)
 
 -- "Every input gets a finished answer": for every input and all lent buffers there is one answer, and one thing that the buffers then hold,
 -- that meet the promise
@@ -49,7 +49,7 @@ done-or-refused (Refused r) = inr (numberOf (r .kind), r .place, refl)
 
 -- "a refusal carries its number and place from the table": it is given exactly when its condition holds
 pub refused-exactly : (c : Public) (old : Lent c) (a : Answer) (new : Lent c) → Kept c old a new
-    → (number place : ℕ) → (reads a ≡ refused number place) ↔ Given c old number place
+    → (number place : ℕ) → (reads a ≡ refused number place) ↔ RefusedWith c old number place
 refused-exactly c = law.refused-exactly (the c .call) (the c .Wrong) (the c .wanted) (the c .law)
 
 -- a call is done exactly when nothing is wrong with its input and there is room, and it says how many elements it wrote

@@ -30,7 +30,7 @@ use Rattle.grammar.specs.Faults.{no-fault-leaves}
 use Rattle.searching.specs.First.{Found, first-at, nowhere}
 use Rattle.accepting.specs.FromTable.{rows-accepted}
 use Rattle.laws.specs.OneToOne.{every-tree, same-clades-same-vector}
-use Rattle.demands.specs.Given.{CountWrong, CountRight, WithinBounds, First, Above, Unfit, labelNumbers, labelPlace}
+use Rattle.demands.specs.Conditions.{CountWrong, CountRight, WithinBounds, First, Above, Unfit, labelNumbers, labelPlace}
 use Rattle.demands.specs.FirstPlace.{label-found, padding-found}
 use Rattle.demands.specs.FirstWrongRow.{RowFound, first-row, row-found}
 use Rattle.demands.specs.Cases.{count-cases, equal-cases, above-cases}

@@ -29,7 +29,7 @@ use Rattle.grammar.specs.Faults.{leaves-no-fault, leaves-count}
 use Rattle.grammar.specs.Length.{text-length, text-length-most}
 use Rattle.laws.specs.TreeOf.{tree-leaves, vector-again}
 use Rattle.accepting.specs.FromTable.{rows-accepted}
-use Rattle.demands.specs.Given.{CountRight, WithinBounds}
+use Rattle.demands.specs.Conditions.{CountRight, WithinBounds}
 use Rattle.demands.specs.Law.{made-accepted, done-written}
 use Rattle.demands.specs.LawVector.{VectorRefused, vector-cases, vector-passes, vector-valid}
 use Rattle.demands.specs.LawCheck.{lawful-check}

@@ -1,7 +1,7 @@
 -- Each public call by itself: its buffers, and for every valid vector an input of the call to which it answers done.
--- Main definitions: Buffer, bufferOf, Library, KeepsAll, Asked, Try. Main results: asked, asked-done.
+-- Main definitions: Buffer, bufferOf, Library, KeepsAll, Asked, Try. Main results: no-buffer-missed, asked, asked-done.
 use mathlib.Core.List.{List, []}
-use mathlib.Core.Path.{_≡_, refl, ap}
+use mathlib.Core.Path.{_≡_, refl, ap, ap₂}
 use Prim.Native.Nat.{ℕ}
 use native.Mathlib.Omega.{arith}
 use lib.ListN.{length, getD, replicate, length-replicate}
@@ -34,6 +34,18 @@ pub data Buffer : Name → ℕ → Type 0 where
 -- what buffer j holds
 abbrev pub bufferOf : ℕ → (c : Public) → Lent c → List ℕ
 bufferOf j c old = getD (the c .shape .each old) j []
+
+-- no buffer of a call is missed: where each of these holds the same, all that is lent does
+pub no-buffer-missed : (c : Public) (a b : Lent c) → ((j : ℕ) → Buffer (the c .name) j → bufferOf j c a ≡ bufferOf j c b) → a ≡ b
+no-buffer-missed (checks v) a b same = refl
+no-buffer-missed (to-table v) a b same = same 0 to-table-out
+no-buffer-missed (from-table n xs) a b same = same 0 from-table-out
+no-buffer-missed (to-newick v) a b same = same 0 to-newick-out
+no-buffer-missed (from-newick s) a b same = same 0 from-newick-out
+no-buffer-missed (packs v) a b same = same 0 pack-out
+no-buffer-missed (unpacks s) a b same = same 0 unpack-out
+no-buffer-missed (shuffles v) a b same = ap₂ (λ (x y : List ℕ). (x, y)) (same 0 shuffle-new) (same 1 shuffle-out)
+no-buffer-missed (relabels v p) a b same = same 0 relabel-out
 
 -- how many elements an answer counts, of what a call makes
 abbrev pub counts : (c : Public) → the c .Written → ℕ

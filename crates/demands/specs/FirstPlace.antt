@@ -19,7 +19,7 @@ use Rattle.rules.specs.Shuffle.{permutationFault}
 use Rattle.basics.specs.Bools.{or-cases, or-left, or-right}
 use Rattle.searching.specs.First.{Tells, tells-if, if-or-else, Below, Found, found-same}
 use Rattle.searching.specs.Walked.{Walk, gathered, gathered-some, walk-found}
-use Rattle.demands.specs.Given.{Above, Unfit, PaddingSet}
+use Rattle.demands.specs.Conditions.{Above, Unfit, PaddingSet}
 
 -- 4: the first entry above its bound
 pub above-found : (v : List ℕ) → Found (Above v) (λ i w. i) (fault 0 v)

@@ -11,9 +11,10 @@ use lib.Dec.{eqb, ltb}
 use borrow.Author.Tests.{ltb-true, ltb-false, eqb-true, eqb-false, eq-eqb}
 use Rattle.rules.specs.Table.{Row, Fault, rowFault, tableFault, childrenBelow, namedTwice}
 use Rattle.basics.specs.Bools.{or-left, or-right}
+use Rattle.rows.specs.Forest.{namedAlso}
 use Rattle.searching.specs.First.{First, Tells, is-wrong, is-right, orElse, Found, found-first, found-same}
 use Rattle.searching.specs.Walked.{Walk, gathered, gathered-some, walk-found}
-use Rattle.demands.specs.Given.{rowAt, NamedBefore, WrongRow, parent-wrong, child-not-below, child-named, RowWrong, FirstRow}
+use Rattle.demands.specs.Conditions.{rowAt, NamedBefore, WrongRow, parent-wrong, child-not-below, child-named, RowWrong, FirstRow}
 
 -- of a row one thing is wrong first
 wrong-unique : {p : ℕ} {N : ℕ → Type 0} {r : Row} {k l : ℕ} → WrongRow p N r k → WrongRow p N r l → k ≡ l
@@ -83,10 +84,8 @@ row-tells n t named Named r same =
             never (k, child-named a b c (inr (inr d))) = eqb-false (r .0) (r .1) qf d
 
 -- the children of the rows before
-abbrev namedAlso : (ℕ → Bool) → Row → ℕ → Bool
-namedAlso named r = λ c. named c || eqb c (r .0) || eqb c (r .1)
-
 named-before : (rs : List Row) (t c : ℕ) → (gathered namedAlso (0, 0, 0) (λ c. false) rs t c ≡ true) ↔ NamedBefore rs t c
+unfolding namedAlso
 named-before rs t c =
     gathered-some (0, 0, 0) (λ c. false) rs (λ named. named c ≡ true) (λ r. (r .0 ≡ c) ⊎ (r .1 ≡ c)) false≢true (λ named r. (there named r, back named r)) t
   where
@@ -113,7 +112,7 @@ abbrev pub RowFound : ℕ → List Row → Type 0
 RowFound n rs = Found (WrongAt n rs) (λ t w. (w .0, t)) (tableFault n rs)
 
 pub row-found : (n : ℕ) (rs : List Row) → RowFound n rs
-unfolding tableFault rowFault
+unfolding tableFault rowFault namedAlso
 row-found n rs =
     found-same (λ t w. (w .0, t))
     (walk-found W (0, 0, 0) (λ c. false) rs (λ t. (k : ℕ) × WrongRow (n + t) (NamedBefore rs t) (rowAt rs t) k) (λ t w. (w .0, t))

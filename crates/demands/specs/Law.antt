@@ -1,5 +1,5 @@
 -- Demand 1 for any call: what follows once it is known when the call refuses. One proof for all calls.
--- Main definitions: Settled, Lawful, Given, OneAnswer. Main results: refused-exactly, room-exactly, done-exactly, one-refusal,
+-- Main definitions: Settled, Lawful, RefusedWith, OneAnswer. Main results: refused-exactly, room-exactly, done-exactly, one-refusal,
 -- refusal-writes-nothing, every-input-answered, promise-unique; done-made, done-written; lawful-made.
 use mathlib.Core.Bool.{Bool, true, false}
 use mathlib.Core.Logic.{_≢_, _⊎_, inl, inr, _↔_}
@@ -68,8 +68,8 @@ module _ {L W : Type 0} (c : Call L W) (Wrong : ℕ → ℕ → Type 0) (wanted 
   Short old k p = (k ≡ c .short) × (p ≡ wanted) × (c .buffers .room old < wanted) × Accepted Wrong
 
   -- when a call refuses with a number and a place
-  abbrev pub Given : L → ℕ → ℕ → Type 0
-  Given old k p = Wrong k p ⊎ Short old k p
+  abbrev pub RefusedWith : L → ℕ → ℕ → Type 0
+  RefusedWith old k p = Wrong k p ⊎ Short old k p
 
   -- an answer and the buffers after it keep the promise, and no others do
   pub record OneAnswer (old : L) : Type 0 where
@@ -113,20 +113,20 @@ module _ {L W : Type 0} (c : Call L W) (Wrong : ℕ → ℕ → Type 0) (wanted 
             at (inr h) = short (made-accepted m M (y .0) (y .1)) (rw (← y .2) h) (lacking (y .0) (y .1) h ∙ ap (refused (c .short)) (y .2))
 
   -- "a refusal carries its number and place from the table": it is given exactly when its condition holds
-  pub refused-exactly : (old : L) (a : Answer) (new : L) → Keeps c old a new → (k p : ℕ) → (reads a ≡ refused k p) ↔ Given old k p
+  pub refused-exactly : (old : L) (a : Answer) (new : L) → Keeps c old a new → (k p : ℕ) → (reads a ≡ refused k p) ↔ RefusedWith old k p
   refused-exactly old a new P k p = (λ e. go (sym (P .answered) ∙ e) E, λ g. P .answered ∙ back g E)
     where
       E : Ends (P .what) (P .made-so) old
       E = ends (P .what) (P .made-so) old
 
-      go : answers c (P .what) old ≡ refused k p → Ends (P .what) (P .made-so) old → Given old k p
+      go : answers c (P .what) old ≡ refused k p → Ends (P .what) (P .made-so) old → RefusedWith old k p
       go e (wrong l q r f) =
           let s = refused-same (sym f ∙ e) in
           inl (subst (λ (x : ℕ). Wrong x p) (s .0) (subst (Wrong l) (s .1) r))
       go e (short n h f) = let s = refused-same (sym f ∙ e) in inr (sym (s .0), sym (s .1), h, n)
       go e (full n h f) = absurd (done-not-refused _ _ _ (sym f ∙ e))
 
-      back : Given old k p → Ends (P .what) (P .made-so) old → answers c (P .what) old ≡ refused k p
+      back : RefusedWith old k p → Ends (P .what) (P .made-so) old → answers c (P .what) old ≡ refused k p
       back (inl r) x = early (P .what) (P .made-so) old k p r
       back (inr h) (wrong l q r f) = absurd (h .3 l q r)
       back (inr h) (short n l f) = f ∙ ap₂ refused (sym (h .0)) (sym (h .1))
@@ -155,7 +155,7 @@ module _ {L W : Type 0} (c : Call L W) (Wrong : ℕ → ℕ → Type 0) (wanted 
       → (reads a ≡ refused (c .short) p) ↔ ((p ≡ wanted) × (c .buffers .room old < wanted) × Accepted Wrong)
   room-exactly old a new P p = let e = refused-exactly old a new P (c .short) p in (λ r. go (e .0 r), λ g. e .1 (inr (refl, g .0, g .1, g .2)))
     where
-      go : Given old (c .short) p → (p ≡ wanted) × (c .buffers .room old < wanted) × Accepted Wrong
+      go : RefusedWith old (c .short) p → (p ≡ wanted) × (c .buffers .room old < wanted) × Accepted Wrong
       go (inl r) = absurd (T .settled (P .what) (P .made-so) .of-input (c .short) p r .2 refl)
       go (inr g) = (g .1, g .2, g .3)
 

@@ -18,7 +18,7 @@ use Rattle.table_laws.specs.Flat.{rowsOf-length}
 use Rattle.rows.specs.Forest.{rows-make-a-tree}
 use Rattle.searching.specs.First.{first-at, nowhere}
 use Rattle.accepting.specs.Guards.{wrong-length, right-length}
-use Rattle.demands.specs.Given.{CountWrong, CountRight, FirstRow, RowWrong, parent-wrong, child-not-below, child-named}
+use Rattle.demands.specs.Conditions.{CountWrong, CountRight, FirstRow, RowWrong, parent-wrong, child-not-below, child-named}
 use Rattle.demands.specs.FirstWrongRow.{RowFound, first-row, row-found, row-given}
 use Rattle.demands.specs.Cases.{count-cases, count-given, count-passes, equal-cases}
 use Rattle.demands.specs.Law.{OfInput, Settled, Lawful, lawful-made}

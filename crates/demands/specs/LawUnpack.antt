@@ -19,7 +19,7 @@ use Rattle.rules.specs.Promise.{list}
 use Rattle.rules.specs.CallUnpack.{fromEntries, unpack, unpack-call}
 use Rattle.record_laws.specs.Inverse.{length-entries}
 use Rattle.accepting.specs.Guards.{wrong-length, right-length}
-use Rattle.demands.specs.Given.{First, CountWrong, CountRight, Above, WithinBounds, PaddingSet}
+use Rattle.demands.specs.Conditions.{First, CountWrong, CountRight, Above, WithinBounds, PaddingSet}
 use Rattle.demands.specs.FirstPlace.{padding-found}
 use Rattle.demands.specs.Cases.{count-cases, count-given, count-passes, equal-cases, above-cases, above-given, within-given}
 use Rattle.demands.specs.Law.{OfInput, Settled, Lawful, lawful-made}

@@ -12,7 +12,7 @@
 --     DemandOne.refused-exactly: a call refuses with a number and a place exactly when the condition holds that 01 gives. There is a line for each
 --     number and each kind of input, in 01's order: LawVector.VectorRefused (1, 4), LawRelabel.RelabelRefused (then 2, 11),
 --     LawFromTable.TableRefused (1, 2, rows upward with 5, 6, 7 in each), LawFromNewick.TextRefused (2, 8, 1, 9), LawUnpack.RecordRefused
---     (2, 1, 2, 4, 10); "Of one number, the first place counts": Given.First, FirstRow. 3 comes last: room-exactly. No two conditions hold at
+--     (2, 1, 2, 4, 10); "Of one number, the first place counts": Conditions.First, FirstRow. 3 comes last: room-exactly. No two conditions hold at
 --     once: one-refusal. Done: done-exactly, with the count.
 -- "and every lent buffer then holds what it held."
 --     DemandOne.refusal-writes-nothing.
@@ -40,14 +40,15 @@
 --
 -- "How tight the statements are". A wrong library breaks the promise where only one call or one buffer is wrong, and only where it is done:
 --     "One that refuses everything": Tight.not-refuse-everything. "One fixed vector for all": not-one-vector; by demand 3 too:
---     TightByThree.not-one-vector-of-tables, -texts, -records. "One that answers done and writes nothing": not-write-nothing. "One that merges
---     properly once": every-row, not-one-row. "A count of elements not tied to what was written": done-is-written, count-is-written, not-one-count.
+--     TightByThree.not-one-vector-of-tables, not-one-vector-of-texts, not-one-vector-of-records. "One that answers done and writes nothing":
+--     not-write-nothing. "One that merges properly once": every-row, not-one-row. "A count of elements not tied to what was written":
+--     done-is-written, count-is-written, not-one-count. No buffer is left out of these: EachCall.no-buffer-missed.
 --     One library, and only one, keeps the promises: one-library-keeps, no-two-libraries.
 --
 -- The other files are on the way there: FirstPlace and FirstWrongRow (the searches of the rules find the first place), Cases (each condition
 -- holds or not), Law (demand 1 for any call), Law* (when each call refuses, and that it makes what is wanted), Long (how many elements that is),
 -- EachCall (for every vector an input of each call that is done).
-pub mod Given
+pub mod Conditions
 pub mod FirstPlace
 pub mod FirstWrongRow
 pub mod Cases

@@ -24,7 +24,7 @@ use Rattle.table_laws.specs.Grown.{same-start, row-clusters, table-tree}
 use Rattle.rows.specs.Forest.{forest-table}
 use Rattle.rows.specs.Clades.{under-has, has-under}
 use Rattle.laws.specs.FactOne.{fact-one-at-each-step, complete-larger-name}
-use Rattle.demands.specs.Given.{rowAt}
+use Rattle.demands.specs.Conditions.{rowAt}
 
 -- x is the least leaf under node k, by the rows alone
 pub record LeastUnder (n : ℕ) (rs : List Row) (k x : ℕ) : Type 0 where

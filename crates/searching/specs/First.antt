@@ -6,6 +6,7 @@ use mathlib.Core.Option.{Option, none, some}
 use mathlib.Core.Path.{_≡_, refl, ap, _∙_}
 use Prim.Native.Nat.{ℕ, zero, suc, _<_}
 use native.Mathlib.Omega.{arith}
+use native.Mathlib.Nat.{eq-or-lt-of-le, le-of-suc-le-suc}
 use lib.Dec.{ltb}
 use borrow.Author.Tests.{ltb-true, ltb-false}
 
@@ -56,13 +57,6 @@ pub data Found {B : Type 0} (Wrong : ℕ → Type 0) (says : (i : ℕ) → Wrong
 abbrev pub Below : ℕ → (ℕ → Type 0) → ℕ → Type 0
 Below n Wrong i = (i < n) × Wrong i
 
-pub below-or-last : (j n : ℕ) → j < suc n → (j < n) ⊎ (j ≡ n)
-below-or-last j n h = go (ltb j n) refl
-  where
-    go : (b : Bool) → ltb j n ≡ b → (j < n) ⊎ (j ≡ n)
-    go true e = inl (ltb-true j n e)
-    go false e = inr (omega (arith, ltb-false j n e))
-
 -- where each test below n tells what is wrong at its place, the search finds the first
 pub first-below-found : {B : Type 0} (Wrong : ℕ → Type 0) (says : (i : ℕ) → Wrong i → B) (test : ℕ → Option B) (n : ℕ)
     → ((i : ℕ) → i < n → Tells (Wrong i) (says i) (test i)) → Found (Below n Wrong) (λ i w. says i (w .1)) (firstBelow test n)
@@ -78,11 +72,11 @@ first-below-found {B} Wrong says test (suc n) tells =
     go o (nowhere e right) (is-right d none-here) = nowhere (rw e d) never
       where
         never : (j : ℕ) → Below (suc n) Wrong j → ⊥
-        never j w = at (below-or-last j n (w .0))
+        never j w = at (eq-or-lt-of-le (le-of-suc-le-suc (w .0)))
           where
-            at : (j < n) ⊎ (j ≡ n) → ⊥
-            at (inl l) = right j (l, w .1)
-            at (inr z) = none-here (rw z at (w .1))
+            at : (j ≡ n) ⊎ (j < n) → ⊥
+            at (inl z) = none-here (rw z at (w .1))
+            at (inr l) = right j (l, w .1)
 
 -- exactly when: a first place that is wrong is the one found, where one thing at most is said of it
 pub found-first : {B : Type 0} {Wrong : ℕ → Type 0} {says : (i : ℕ) → Wrong i → B} {o : Option B} → Found Wrong says o

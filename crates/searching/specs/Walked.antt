@@ -6,8 +6,9 @@ use mathlib.Core.Option.{Option, none, some}
 use mathlib.Core.Path.{_≡_, refl, sym, ap, ap₂, _∙_}
 use Prim.Native.Nat.{ℕ, zero, suc, _+_, _<_}
 use native.Mathlib.Omega.{arith}
+use native.Mathlib.Nat.{eq-or-lt-of-le, le-of-suc-le-suc}
 use lib.ListN.{length, getD}
-use Rattle.searching.specs.First.{Tells, orElse, firstBelow, Below, Found, below-or-last, first-below-found}
+use Rattle.searching.specs.First.{Tells, orElse, firstBelow, Below, Found, first-below-found}
 
 -- what one says, else another, else a third
 or-else-again : {B : Type 0} (a b c : Option B) → orElse (orElse a b) c ≡ orElse a (orElse b c)
@@ -66,11 +67,11 @@ gathered-some {next = next} past s xs Holds Such never each (suc i) =
 
     back : Holds (gathered next past s xs i) ↔ Before → (j : ℕ) → j < suc i → Such (getD xs j past)
         → Holds (gathered next past s xs i) ⊎ Such (getD xs i past)
-    back ih j l h = go (below-or-last j i l)
+    back ih j l h = go (eq-or-lt-of-le (le-of-suc-le-suc l))
       where
-        go : (j < i) ⊎ (j ≡ i) → Holds (gathered next past s xs i) ⊎ Such (getD xs i past)
-        go (inl b) = inl (ih .1 (j, b, h))
-        go (inr e) = inr (rw e at h)
+        go : (j ≡ i) ⊎ (j < i) → Holds (gathered next past s xs i) ⊎ Such (getD xs i past)
+        go (inl e) = inr (rw e at h)
+        go (inr b) = inl (ih .1 (j, b, h))
 
 -- A walk from place k on: each element is tested, with its place and what was gathered before it; the first test that says something counts.
 pub record Walk {S A B : Type 0} (test : ℕ → S → A → Option B) (next : S → A → S) (walk : ℕ → S → List A → Option B) : Type 0 where
