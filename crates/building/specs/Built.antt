@@ -14,7 +14,7 @@ use Rattle.rules.specs.Building.{Merge, State, start, below, sees, next, merge,
 use Rattle.basics.specs.Bools.{and-false}
 use Rattle.merging.specs.Insertion.{Bounded, valid-bounded, put, insert, pairsOf, pairs, put-zero, put-suc, pairs-length, pairs-count}
 use Rattle.building.specs.Labels.{used-merge, unused-below}
-use Rattle.building.specs.Next.{sees-none, sees-at, Ready, next-ready, next-dead, next-blind, next-takes, Agree, next-cong, merge-cong}
+use Rattle.building.specs.Next.{sees-none, sees-at, CanMerge, next-can-merge, next-dead, next-blind, next-takes, Agree, next-cong, merge-cong}
 
 pub steps-some : (v : ℕ → ℕ) (n k : ℕ) (s : State) (m : Merge) → next v s n ≡ some m → steps v n (suc k) s ≡ m ∷ steps v n k (merge s m)
 unfolding steps
@@ -80,7 +80,7 @@ blind : (v : ℕ → ℕ) (n t : ℕ) (s : State) → Room n t s → n + t ≤ v
 blind v n t s R h = next-blind v s n (sees-none s n (v n) (λ c hc. omega (arith, R .labels c hc)))
 
 -- the cluster just merged is the one that leaf n labels n + t
-gets : (v : ℕ → ℕ) (n t : ℕ) (s : State) → Room n t s → v n ≡ n + (t + 0) → (m : Merge) → Ready v s n m → sees (merge s m) n (v n) ≡ some (m .0)
+gets : (v : ℕ → ℕ) (n t : ℕ) (s : State) → Room n t s → v n ≡ n + (t + 0) → (m : Merge) → CanMerge v s n m → sees (merge s m) n (v n) ≡ some (m .0)
 unfolding merge
 gets v n t s R e m F =
     let l : m .1 < n = F .leaf-below in
@@ -93,7 +93,7 @@ now : (v : ℕ → ℕ) (n t k : ℕ) (s : State) → Room n t s → v n ≡ n +
     → (o : Option Merge) → next v s n ≡ o → steps v (suc n) (suc (suc k)) s ≡ put n 0 (steps v n (suc k) s)
 now v n t k s R e l none q = absurd (omega (arith, ap length (steps-none v n k s q)))
 now v n t k s R e l (some m) q =
-    let F = next-ready v s n m q in
+    let F = next-can-merge v s n m q in
     let s₁ = merge s m in
     let b : next v s (suc n) ≡ some m = blind v n t s R (omega arith) ∙ q in
     let g : next v s₁ (suc n) ≡ some (m .0, n) = next-takes v s₁ n (m .0) (room-merge n t s R m (F .leaf-below) .own) (gets v n t s R e m F) in
@@ -110,7 +110,7 @@ later : (v : ℕ → ℕ) (n d t k : ℕ) (s : State) → Room n t s → v n ≡
     → steps v (suc n) (suc (suc k)) s ≡ put n (suc d) (steps v n (suc k) s)
 later v n d t k s R e l none q ih = absurd (omega (arith, ap length (steps-none v n k s q)))
 later v n d t k s R e l (some m) q ih =
-    let F = next-ready v s n m q in
+    let F = next-can-merge v s n m q in
     let s₁ = merge s m in
     let b : next v s (suc n) ≡ some m = blind v n t s R (omega arith) ∙ q in
     let w : steps v n (suc k) s ≡ m ∷ steps v n k s₁ = steps-some v n k s m q in

@@ -16,7 +16,7 @@ use Rattle.basics.specs.Bools.{and-false}
 use Rattle.merging.specs.Insertion.{pairsOf, pairs}
 use Rattle.merging.specs.Once.{hit, times, once, times-insert, hit-other}
 use Rattle.building.specs.Labels.{Reached, starts, goes}
-use Rattle.building.specs.Next.{next-ready}
+use Rattle.building.specs.Next.{next-can-merge}
 use Rattle.building.specs.Built.{steps-some, steps-none, merges-are-pairs, merges-length}
 
 -- the state after some merges
@@ -136,7 +136,7 @@ reached-after v ok (goes {s} {m} r e) = go (reached-after v ok r)
             let p : some m ≡ some (getD (merges v) (w .0) (0, 0)) = sym e ∙ rw (w .2) (goes-on v ok (w .0) l) in
             (suc (w .0), l, ap₂ merge (w .2) (Option·some-injective m (getD (merges v) (w .0) (0, 0)) p) ∙ sym (after-next (merges v) (start (length v)) (w .0) (omega (arith, merges-length v ok))))
         more false q =
-            let R = next-ready (entry v) s (length v) m e in
+            let R = next-can-merge (entry v) s (length v) m e in
             absurd (alone v ok (w .0) (ltb-false (suc (w .0)) (length v) q) (m .1) (omega (arith, R .seen)) (rw (w .2) at (R .larger-names)))
 
 -- while two clusters are left some leaf can merge
@@ -159,6 +159,6 @@ stops v ok = go (next (entry v) (after (merges v) (start (length v))) (length v)
     go : (o : Option Merge) → next (entry v) (after (merges v) (start (length v))) (length v) ≡ o → o ≡ none
     go none q = refl
     go (some m) q =
-        let R = next-ready (entry v) (after (merges v) (start (length v))) (length v) m q in
+        let R = next-can-merge (entry v) (after (merges v) (start (length v))) (length v) m q in
         let z : eqb (m .1) 0 ≡ true = sym (one-left v ok (m .1)) ∙ R .larger-names in
         absurd (omega (arith, eqb-true (m .1) 0 z, R .seen))

@@ -1,5 +1,5 @@
 -- One step of the building rule: what a leaf sees, and that the next merge is the one that 01 says.
--- Main definitions: Ready, Agree. Main results: next-ready, next-largest, next-none, next-cong.
+-- Main definitions: CanMerge, Agree. Main results: next-can-merge, next-largest, next-none, next-cong.
 use mathlib.Core.Path.{_≡_, refl, sym, subst}
 use mathlib.Core.Logic.{_≢_}
 use mathlib.Core.Bool.{Bool, true, false, _&&_, cond}
@@ -47,54 +47,54 @@ unfolding sees
 sees-nothing s i x e c h al la = Option·none-ne-some c (sym (rw (al, eq-eqb (s .label i c) x la) at (last-none _ i e c h)))
 
 -- Leaf m .1 "still names a cluster and sees one labelled v(i)", the cluster m .0.
-pub record Ready (v : ℕ → ℕ) (s : State) (n : ℕ) (m : Merge) : Type 0 where
+pub record CanMerge (v : ℕ → ℕ) (s : State) (n : ℕ) (m : Merge) : Type 0 where
   pub leaf-below : m .1 < n
   pub seen : m .0 < m .1
   pub smaller-names : s .names (m .0) ≡ true
   pub larger-names : s .names (m .1) ≡ true
   pub labelled : s .label (m .1) (m .0) ≡ v (m .1)
 
--- a leaf's merge is one that it is ready for
-own-ready : (v : ℕ → ℕ) (s : State) (n i : ℕ) (m : Merge) → i < n → mergeOf v s i ≡ some m → (m .1 ≡ i) × Ready v s n m
+-- a leaf's merge is one that it can make
+own-can-merge : (v : ℕ → ℕ) (s : State) (n i : ℕ) (m : Merge) → i < n → mergeOf v s i ≡ some m → (m .1 ≡ i) × CanMerge v s n m
 unfolding mergeOf
-own-ready v s n i m l e = go (s .names i) refl e
+own-can-merge v s n i m l e = go (s .names i) refl e
   where
-    go : (b : Bool) → s .names i ≡ b → cond b (Option·map {B = Merge} (λ a. (a, i)) (sees s i (v i))) none ≡ some m → (m .1 ≡ i) × Ready v s n m
+    go : (b : Bool) → s .names i ≡ b → cond b (Option·map {B = Merge} (λ a. (a, i)) (sees s i (v i))) none ≡ some m → (m .1 ≡ i) × CanMerge v s n m
     go false q e′ = absurd (Option·none-ne-some m e′)
     go true q e′ =
         let w = map-eq-some-iff {B = Merge} (λ a. (a, i)) (sees s i (v i)) .0 e′ in
         let g = sees-facts s i (v i) (w .0) (w .1) in
-        subst (λ (p : Merge). (p .1 ≡ i) × Ready v s n p) (w .2)
+        subst (λ (p : Merge). (p .1 ≡ i) × CanMerge v s n p) (w .2)
         (refl, record { leaf-below = l; seen = g .0; smaller-names = g .1; larger-names = q; labelled = g .2 })
 
--- a leaf that is ready has a merge
-ready-own : (v : ℕ → ℕ) (s : State) (n : ℕ) (m : Merge) → Ready v s n m → mergeOf v s (m .1) ≡ none → ⊥
+-- a leaf that can merge has a merge
+can-merge-own : (v : ℕ → ℕ) (s : State) (n : ℕ) (m : Merge) → CanMerge v s n m → mergeOf v s (m .1) ≡ none → ⊥
 unfolding mergeOf
-ready-own v s n m R e =
+can-merge-own v s n m R e =
     sees-nothing s (m .1) (v (m .1)) (map-eq-none-iff {B = Merge} (λ a. (a, m .1)) (sees s (m .1) (v (m .1))) .0 (rw (R .larger-names) at e))
     (m .0) (R .seen) (R .smaller-names) (R .labelled)
 
 -- the next merge is of a leaf that "still names a cluster and sees one labelled v(i)", with that one
-pub next-ready : (v : ℕ → ℕ) (s : State) (n : ℕ) (m : Merge) → next v s n ≡ some m → Ready v s n m
+pub next-can-merge : (v : ℕ → ℕ) (s : State) (n : ℕ) (m : Merge) → next v s n ≡ some m → CanMerge v s n m
 unfolding next
-next-ready v s n m e = let w = last-some (mergeOf v s) n m e in own-ready v s n (w .0) m (w .1 .within) (w .1 .found) .1
+next-can-merge v s n m e = let w = last-some (mergeOf v s) n m e in own-can-merge v s n (w .0) m (w .1 .within) (w .1 .found) .1
 
 -- "the largest i"
-pub next-largest : (v : ℕ → ℕ) (s : State) (n : ℕ) (m : Merge) → next v s n ≡ some m → (p : Merge) → Ready v s n p → p .1 ≤ m .1
+pub next-largest : (v : ℕ → ℕ) (s : State) (n : ℕ) (m : Merge) → next v s n ≡ some m → (p : Merge) → CanMerge v s n p → p .1 ≤ m .1
 unfolding next
 next-largest v s n m e p R =
     let w = last-some (mergeOf v s) n m e in
-    let i : m .1 ≡ w .0 = own-ready v s n (w .0) m (w .1 .within) (w .1 .found) .0 in
+    let i : m .1 ≡ w .0 = own-can-merge v s n (w .0) m (w .1 .within) (w .1 .found) .0 in
     go (w .0) i (w .1) (ltb (m .1) (p .1)) refl
   where
     go : (j : ℕ) → m .1 ≡ j → Last (mergeOf v s) n j m → (b : Bool) → ltb (m .1) (p .1) ≡ b → p .1 ≤ m .1
-    go j i L true q = absurd (ready-own v s n p R (L .none-behind (p .1) (omega (arith, ltb-true (m .1) (p .1) q)) (R .leaf-below)))
+    go j i L true q = absurd (can-merge-own v s n p R (L .none-behind (p .1) (omega (arith, ltb-true (m .1) (p .1) q)) (R .leaf-below)))
     go j i L false q = ltb-false (m .1) (p .1) q
 
--- there is a next merge where some leaf is ready
-pub next-none : (v : ℕ → ℕ) (s : State) (n : ℕ) → next v s n ≡ none → (p : Merge) → Ready v s n p → ⊥
+-- there is a next merge where some leaf can merge
+pub next-none : (v : ℕ → ℕ) (s : State) (n : ℕ) → next v s n ≡ none → (p : Merge) → CanMerge v s n p → ⊥
 unfolding next
-next-none v s n e p R = ready-own v s n p R (last-none (mergeOf v s) n e (p .1) (R .leaf-below))
+next-none v s n e p R = can-merge-own v s n p R (last-none (mergeOf v s) n e (p .1) (R .leaf-below))
 
 -- leaf n passed over, where it names no cluster or sees none labelled v(n); and leaf n taken
 pub next-dead : (v : ℕ → ℕ) (s : State) (n : ℕ) → s .names n ≡ false → next v s (suc n) ≡ next v s n

@@ -1,7 +1,7 @@
 -- The laws of the rules, and which sentence of 01 each answers.
 --
 -- "At each step the largest i that still names a cluster and sees one labelled v(i) merges with that one."
---     building Next.next-ready, next-largest, next-none. A leaf sees at most one cluster so labelled: building Labels.labels-apart, over the
+--     building Next.next-can-merge, next-largest, next-none. A leaf sees at most one cluster so labelled: building Labels.labels-apart, over the
 --     states that a run reaches (Going.after-reached, reached-after). Some leaf can merge while two clusters are left: Going.two-left-go-on.
 -- "the smallest label j has not used"
 --     building Labels.smallest-is-unused, smaller-are-used; in a run it is the next number: used-below.
