@@ -43,19 +43,21 @@ part-size s (node l r) (inl e) = omega (arith, ap size e)
 part-size s (node l r) (inr (inl k)) = omega (arith, part-size s l k)
 part-size s (node l r) (inr (inr k)) = omega (arith, part-size s r k)
 
+-- what a pair hands down to its two children, a tree hands down to all its parts
+part-keeps : (Q : Tree → Type 0) → ((l r : Tree) → Q (node l r) → Q l × Q r) → (s t : Tree) → Part s t → Q t → Q s
+unfolding Part
+part-keeps Q down s (leaf y) e q = rw e q
+part-keeps Q down s (node l r) (inl e) q = rw e q
+part-keeps Q down s (node l r) (inr (inl k)) q = part-keeps Q down s l k (down l r q .0)
+part-keeps Q down s (node l r) (inr (inr k)) q = part-keeps Q down s r k (down l r q .1)
+
 pub part-distinct : (s t : Tree) → Part s t → Distinct t → Distinct s
-unfolding Part Distinct
-part-distinct s (leaf y) e D = rw e tt
-part-distinct s (node l r) (inl e) D = rw e D
-part-distinct s (node l r) (inr (inl k)) D = part-distinct s l k (D .1)
-part-distinct s (node l r) (inr (inr k)) D = part-distinct s r k (D .2)
+unfolding Distinct
+part-distinct = part-keeps Distinct (λ l r D. (D .1, D .2))
 
 pub part-turned : (s t : Tree) → Part s t → Turned t → Turned s
-unfolding Part Turned
-part-turned s (leaf y) e T = rw e tt
-part-turned s (node l r) (inl e) T = rw e T
-part-turned s (node l r) (inr (inl k)) T = part-turned s l k (T .1)
-part-turned s (node l r) (inr (inr k)) T = part-turned s r k (T .2)
+unfolding Turned
+part-turned = part-keeps Turned (λ l r T. (T .1, T .2))
 
 pub part-filled : (c : Clusters) (s t : Tree) → Part s t → Part (filled c s) (filled c t)
 unfolding Part filled

@@ -1,16 +1,16 @@
 -- The greedy order of a list of merges: each is, of those that wait for nothing before them, the one with the greatest larger name.
 -- Main definitions: touch, free, Ahead, Greedy, Under. Main results: under-pairs, greedy.
 use mathlib.Core.Path.{_≡_, refl, sym, _∙_}
-use mathlib.Core.Bool.{Bool, true, false, not, _&&_, _||_, cond, true≢false}
+use mathlib.Core.Bool.{Bool, true, false, not, _&&_, _||_, true≢false}
 use mathlib.Core.List.{List, [], _∷_}
 use Prim.Native.Nat.{ℕ, zero, suc, _-_, _≤_, _<_}
 use native.Mathlib.Omega.{arith}
-use lib.Dec.{eqb, ltb}
+use lib.Dec.{eqb}
 use lib.ListN.{length}
-use borrow.Author.Tests.{ltb-false, eq-eqb}
+use borrow.Author.Tests.{eq-eqb}
 use Rattle.rules.specs.Building.{Merge}
 use Rattle.basics.specs.Bools.{and-left, and-right}
-use Rattle.merging.specs.Insertion.{put, insert, pairsOf, Bounded, pairs-length}
+use Rattle.merging.specs.Insertion.{put, insert, by-insert, pairsOf, Bounded, pairs-length}
 
 -- q and p have a cluster's name in common
 unfoldable pub touch : Merge → Merge → Bool
@@ -95,12 +95,8 @@ under-put n zero (m ∷ P) u = let l = u .0 in (omega arith, (omega arith, under
 under-put n (suc d) (m ∷ P) u = let l = u .0 in (omega arith, under-put n d P (u .1))
 
 pub under-insert : (n x : ℕ) (P : List Merge) → Under n P → Under (suc n) (insert n x P)
-unfolding Under insert
-under-insert n x P u = go (ltb x n)
-  where
-    go : (b : Bool) → Under (suc n) (cond b ((x, n) ∷ P) (put n (x - n) P))
-    go true = (omega arith, under-up n P u)
-    go false = under-put n (x - n) P u
+unfolding Under
+under-insert n x P u = by-insert n x P (Under (suc n)) (λ l. (omega arith, under-up n P u)) (λ l. under-put n (x - n) P u)
 
 pub under-pairs : (v : ℕ → ℕ) (n : ℕ) → Under n (pairsOf v n)
 unfolding pairsOf Under
@@ -109,12 +105,8 @@ under-pairs v (suc zero) = tt
 under-pairs v (suc (suc m)) = under-insert (suc m) (v (suc m)) (pairsOf v (suc m)) (under-pairs v (suc m))
 
 greedy-insert : (n x : ℕ) (P : List Merge) → Under n P → (n ≤ x → x - n < length P) → Greedy P → Greedy (insert n x P)
-unfolding insert Greedy
-greedy-insert n x P u h G = go (ltb x n) refl
-  where
-    go : (b : Bool) → ltb x n ≡ b → Greedy (cond b ((x, n) ∷ P) (put n (x - n) P))
-    go true q = (under-ahead n ((x, n) ∷ []) P u, G)
-    go false q = greedy-put n (x - n) P u (h (ltb-false x n q)) G
+unfolding Greedy
+greedy-insert n x P u h G = by-insert n x P Greedy (λ l. (under-ahead n ((x, n) ∷ []) P u, G)) (λ l. greedy-put n (x - n) P u (h l) G)
 
 pub greedy : (v : ℕ → ℕ) (n : ℕ) → Bounded v n → Greedy (pairsOf v n)
 unfolding pairsOf Greedy Bounded

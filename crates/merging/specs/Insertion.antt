@@ -1,5 +1,5 @@
 -- The merges of a vector by insertion: each entry puts its leaf's merge into the merges of the entries before it.
--- Main definitions: put, insert, pairsOf, pairs, Bounded. Main results: valid-bounded, pairs-length, pairs-count, pairs-cong.
+-- Main definitions: put, insert, pairsOf, pairs, Bounded. Main results: valid-bounded, by-insert, pairs-length, pairs-count, pairs-cong.
 use mathlib.Core.Path.{_≡_, refl, ap₂}
 use mathlib.Core.Bool.{Bool, true, false, cond}
 use mathlib.Core.List.{List, [], _∷_, _++_}
@@ -7,6 +7,7 @@ use Prim.Native.Nat.{ℕ, zero, suc, _-_, _*_, _≤_, _<_}
 use native.Mathlib.Omega.{arith}
 use lib.Dec.{ltb}
 use lib.ListN.{length, take, drop, getD, length-append, length-take, length-drop}
+use borrow.Author.Tests.{ltb-true, ltb-false}
 use Rattle.rules.specs.Vector.{entry, bound, Valid}
 use Rattle.rules.specs.Building.{Merge}
 
@@ -50,13 +51,17 @@ put-length : (i d : ℕ) (P : List Merge) → length (put i d P) ≡ suc (length
 unfolding put
 put-length i d P = omega (arith, length-append (take (suc d) P) ((getD P d (0, 0) .0, i) ∷ drop (suc d) P), length-take (suc d) P, length-drop (suc d) P)
 
-insert-length : (i x : ℕ) (P : List Merge) → length (insert i x P) ≡ suc (length P)
+-- by cases: the leaf merges at once, or right after a merge
+pub by-insert : (i x : ℕ) (P : List Merge) (Q : List Merge → Type 0) → (x < i → Q ((x, i) ∷ P)) → (i ≤ x → Q (put i (x - i) P)) → Q (insert i x P)
 unfolding insert
-insert-length i x P = go (ltb x i)
+by-insert i x P Q at-once later = go (ltb x i) refl
   where
-    go : (b : Bool) → length (cond b ((x, i) ∷ P) (put i (x - i) P)) ≡ suc (length P)
-    go true = refl
-    go false = put-length i (x - i) P
+    go : (b : Bool) → ltb x i ≡ b → Q (cond b ((x, i) ∷ P) (put i (x - i) P))
+    go true e = at-once (ltb-true x i e)
+    go false e = later (ltb-false x i e)
+
+insert-length : (i x : ℕ) (P : List Merge) → length (insert i x P) ≡ suc (length P)
+insert-length i x P = by-insert i x P (λ R. length R ≡ suc (length P)) (λ l. refl) (λ l. put-length i (x - i) P)
 
 pub pairs-length : (v : ℕ → ℕ) (m : ℕ) → length (pairsOf v (suc m)) ≡ m
 unfolding pairsOf

@@ -2,7 +2,7 @@
 -- Main definitions: named, Good, Rising. Main results: smaller-named, larger-named, still-named, not-larger, named-times, named-all,
 -- under-unnamed, named-below, under-named, pairs-named, good, rising.
 use mathlib.Core.Path.{_≡_, refl, sym, _∙_}
-use mathlib.Core.Bool.{Bool, true, false, _||_, cond, true≢false}
+use mathlib.Core.Bool.{Bool, true, false, _||_, true≢false}
 use mathlib.Core.List.{List, [], _∷_}
 use Prim.Native.Nat.{ℕ, zero, suc, _-_, _≤_, _<_}
 use native.Mathlib.Omega.{arith}
@@ -13,7 +13,7 @@ use Rattle.rules.specs.Building.{Merge}
 use Rattle.basics.specs.Bools.{or-left, or-right, or-swap, or-no, or-false}
 use Rattle.basics.specs.Cases.{by-lt}
 use Rattle.merging.specs.Once.{times, hit-same, hit-other}
-use Rattle.merging.specs.Insertion.{put, insert, pairsOf, Bounded, pairs-length}
+use Rattle.merging.specs.Insertion.{put, insert, by-insert, pairsOf, Bounded, pairs-length}
 use Rattle.merging.specs.Greedy.{Under, under-pairs}
 
 unfoldable pub named : List Merge → ℕ → Bool
@@ -69,12 +69,8 @@ named-put n zero (m ∷ P) x = or-swap (named P x) (eqb n x) (eqb (m .1) x)
 named-put n (suc d) (m ∷ P) x = rw (named-put n d P x) (or-swap (named P x) (eqb n x) (eqb (m .1) x))
 
 named-insert : (n y : ℕ) (P : List Merge) (x : ℕ) → named (insert n y P) x ≡ named P x || eqb n x
-unfolding insert named
-named-insert n y P x = go (ltb y n)
-  where
-    go : (b : Bool) → named (cond b ((y, n) ∷ P) (put n (y - n) P)) x ≡ named P x || eqb n x
-    go true = refl
-    go false = named-put n (y - n) P x
+unfolding named
+named-insert n y P x = by-insert n y P (λ R. named R x ≡ named P x || eqb n x) (λ l. refl) (λ l. named-put n (y - n) P x)
 
 pub named-all : (v : ℕ → ℕ) (n x : ℕ) → x < n → named (pairsOf v n) x ≡ true
 unfolding pairsOf named
@@ -127,12 +123,8 @@ good-put n (suc d) (m ∷ P) G e h =
     )
 
 good-insert : (n x : ℕ) (P : List Merge) → Good P → ((y : ℕ) → y < n → named P y ≡ true) → named P n ≡ false → (n ≤ x → x - n < length P) → Good (insert n x P)
-unfolding insert Good
-good-insert n x P G f e h = go (ltb x n) refl
-  where
-    go : (b : Bool) → ltb x n ≡ b → Good (cond b ((x, n) ∷ P) (put n (x - n) P))
-    go true q = (f x (ltb-true x n q), e, G)
-    go false q = good-put n (x - n) P G e (h (ltb-false x n q))
+unfolding Good
+good-insert n x P G f e h = by-insert n x P Good (λ l. (f x l, e, G)) (λ l. good-put n (x - n) P G e (h l))
 
 pub good : (v : ℕ → ℕ) (n : ℕ) → Bounded v n → Good (pairsOf v n)
 unfolding pairsOf Good Bounded
@@ -155,12 +147,8 @@ rising-put n zero (m ∷ P) u g h = let a = u .0 in let b = g .0 in (b, (omega a
 rising-put n (suc d) (m ∷ P) u g h = (g .0, rising-put n d P (u .1) (g .1) (omega arith))
 
 pub rising-insert : (n x : ℕ) (P : List Merge) → Under n P → Rising P → (n ≤ x → x - n < length P) → Rising (insert n x P)
-unfolding Rising insert
-rising-insert n x P u g h = go (ltb x n) refl
-  where
-    go : (b : Bool) → ltb x n ≡ b → Rising (cond b ((x, n) ∷ P) (put n (x - n) P))
-    go true q = (ltb-true x n q, g)
-    go false q = rising-put n (x - n) P u g (h (ltb-false x n q))
+unfolding Rising
+rising-insert n x P u g h = by-insert n x P Rising (λ l. (l, g)) (λ l. rising-put n (x - n) P u g (h l))
 
 pub rising : (v : ℕ → ℕ) (n : ℕ) → Bounded v n → Rising (pairsOf v n)
 unfolding pairsOf Rising Bounded

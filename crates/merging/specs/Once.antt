@@ -6,11 +6,11 @@ use mathlib.Core.Bool.{Bool, true, false, cond}
 use mathlib.Core.List.{List, [], _∷_, _++_}
 use Prim.Native.Nat.{ℕ, zero, suc, _+_, _-_, _≤_, _<_}
 use native.Mathlib.Omega.{arith}
-use lib.Dec.{eqb, ltb}
+use lib.Dec.{eqb}
 use lib.ListN.{length, take, drop, getD, take-append-drop}
-use borrow.Author.Tests.{ltb-false, eqb-true, eqb-false, eq-eqb, ne-eqb}
+use borrow.Author.Tests.{eqb-true, eqb-false, eq-eqb, ne-eqb}
 use Rattle.rules.specs.Building.{Merge}
-use Rattle.merging.specs.Insertion.{put, insert, pairsOf, Bounded, pairs-length}
+use Rattle.merging.specs.Insertion.{put, insert, by-insert, pairsOf, Bounded, pairs-length}
 
 unfoldable pub hit : ℕ → ℕ → ℕ
 hit i j = cond (eqb i j) 1 0
@@ -37,12 +37,8 @@ times-put i n d P =
     )
 
 pub times-insert : (i n x : ℕ) (P : List Merge) → times i (insert n x P) ≡ hit i n + times i P
-unfolding insert times
-times-insert i n x P = go (ltb x n)
-  where
-    go : (b : Bool) → times i (cond b ((x, n) ∷ P) (put n (x - n) P)) ≡ hit i n + times i P
-    go true = refl
-    go false = times-put i n (x - n) P
+unfolding times
+times-insert i n x P = by-insert n x P (λ R. times i R ≡ hit i n + times i P) (λ l. refl) (λ l. times-put i n (x - n) P)
 
 pub hit-same : (i j : ℕ) → i ≡ j → hit i j ≡ 1
 unfolding hit
@@ -114,20 +110,13 @@ without-put n zero (m ∷ P) z h = rw (misses n m P z .0, eq-eqb n n refl)
 without-put n (suc d) (m ∷ P) z h = rw (misses n m P z .0) (ap (λ (Q : List Merge). m ∷ Q) (without-put n d P (misses n m P z .1) (omega arith)))
 
 pub entryIn-insert : (n x : ℕ) (P : List Merge) → times n P ≡ 0 → (n ≤ x → x - n < length P) → entryIn n (insert n x P) ≡ x
-unfolding insert entryIn
-entryIn-insert n x P z h = go (ltb x n) refl
-  where
-    go : (b : Bool) → ltb x n ≡ b → entryIn n (cond b ((x, n) ∷ P) (put n (x - n) P)) ≡ x
-    go true q = rw (eq-eqb n n refl)
-    go false q = let l = ltb-false x n q in rw (entryIn-put n (x - n) P z (h l)) (omega arith)
+unfolding entryIn
+entryIn-insert n x P z h =
+    by-insert n x P (λ R. entryIn n R ≡ x) (λ l. rw (eq-eqb n n refl)) (λ l. rw (entryIn-put n (x - n) P z (h l)) (omega arith))
 
 pub without-insert : (n x : ℕ) (P : List Merge) → times n P ≡ 0 → (n ≤ x → x - n < length P) → without n (insert n x P) ≡ P
-unfolding insert without
-without-insert n x P z h = go (ltb x n) refl
-  where
-    go : (b : Bool) → ltb x n ≡ b → without n (cond b ((x, n) ∷ P) (put n (x - n) P)) ≡ P
-    go true q = rw (eq-eqb n n refl)
-    go false q = without-put n (x - n) P z (h (ltb-false x n q))
+unfolding without
+without-insert n x P z h = by-insert n x P (λ R. without n R ≡ P) (λ l. rw (eq-eqb n n refl)) (λ l. without-put n (x - n) P z (h l))
 
 pub fits : (v : ℕ → ℕ) (m : ℕ) → Bounded v (suc (suc m)) → suc m ≤ v (suc m) → v (suc m) - suc m < length (pairsOf v (suc m))
 unfolding Bounded

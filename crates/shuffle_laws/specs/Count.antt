@@ -1,7 +1,6 @@
 -- Counting: how often a leaf stands in a tree.
 -- Main definition: leafTimes. Main results: one-more, sum-hit, has-times, times-has, below-times, times-below.
 use mathlib.Core.Path.{_≡_, sym, _∙_}
-use mathlib.Core.Logic.{_≢_}
 use mathlib.Core.Bool.{true, false, true≢false}
 use Prim.Native.Nat.{ℕ, zero, suc, _+_, _≤_}
 use native.Mathlib.Omega.{arith}
