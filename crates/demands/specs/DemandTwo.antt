@@ -9,7 +9,6 @@ use Prim.Native.Nat.{ℕ, _≤_}
 use native.Mathlib.Omega.{arith}
 use lib.ListN.{length}
 use Rattle.rules.specs.declared.Answer.{Answer}
-use Rattle.rules.specs.Vector.{Valid}
 use Rattle.rules.specs.Tree.{treeOf}
 use Rattle.rules.specs.Order.{vectorOf}
 use Rattle.rules.specs.Table.{tableOf, rowsOf}
@@ -29,9 +28,12 @@ use Rattle.grammar.specs.Faults.{leaves-no-fault, leaves-count}
 use Rattle.grammar.specs.Length.{text-length, text-length-most}
 use Rattle.laws.specs.TreeOf.{tree-leaves, vector-again}
 use Rattle.accepting.specs.FromTable.{rows-accepted}
+use Rattle.accepting.specs.FromVector.{vector-accepted}
+-- Vector: the vectors that the demand is about
+pub use Rattle.accepting.specs.FromVector.{Vector}
 use Rattle.demands.specs.Conditions.{CountRight, WithinBounds}
 use Rattle.demands.specs.Law.{made-accepted, done-written}
-use Rattle.demands.specs.LawVector.{VectorRefused, vector-cases, vector-passes, vector-valid}
+use Rattle.demands.specs.LawVector.{VectorRefused, vector-cases, vector-valid}
 use Rattle.demands.specs.LawCheck.{lawful-check}
 use Rattle.demands.specs.LawFromNewick.{labels-fit}
 use Rattle.demands.specs.Long.{table-long}
@@ -41,15 +43,10 @@ use Rattle.demands.specs.Relabelled.{Permutation, Relabelled, relabelled
 use Rattle.demands.specs.WrittenTable.{WrittenTable, written-table}
 use Rattle.demands.specs.WrittenText.{WrittenText, written-text}
 
--- the vectors that the demand is about
-pub record Vector (v : List ℕ) : Type 0 where
-  pub valid : Valid v
-  pub few : length v ≤ 1024
-
 -- they are those that check accepts
 pub accepted-exactly : (v : List ℕ) → (check v ≡ made tt) ↔ Vector v
 unfolding check
-accepted-exactly v = (λ e. go e (vector-cases v), λ W. vector-passes {W = Unit {0}} v (made tt) (W .valid .some-leaf, W .few) (W .valid .bounded))
+accepted-exactly v = (λ e. go e (vector-cases v), vector-accepted {W = Unit {0}} v (made tt))
   where
     go : check v ≡ made tt → ((k : ℕ) × (p : ℕ) × VectorRefused v k p) ⊎ (CountRight (length v) × WithinBounds v) → Vector v
     go e (inl r) = absurd (made-accepted _ _ _ (lawful-check v) (check v) refl tt e (r .0) (r .1) (r .2))
@@ -58,15 +55,15 @@ accepted-exactly v = (λ e. go e (vector-cases v), λ W. vector-passes {W = Unit
 -- what each notation of a vector is
 pub makes-table : (v : List ℕ) → Vector v → toTable v ≡ made (tableOf v)
 unfolding toTable
-makes-table v W = vector-passes v (made (tableOf v)) (W .valid .some-leaf, W .few) (W .valid .bounded)
+makes-table v = vector-accepted v (made (tableOf v))
 
 pub makes-text : (v : List ℕ) → Vector v → toText v ≡ made (textOf (treeOf v))
 unfolding toText
-makes-text v W = vector-passes v (made (textOf (treeOf v))) (W .valid .some-leaf, W .few) (W .valid .bounded)
+makes-text v = vector-accepted v (made (textOf (treeOf v)))
 
 pub makes-record : (v : List ℕ) → Vector v → pack v ≡ made (recordOf v)
 unfolding pack
-makes-record v W = vector-passes v (made (recordOf v)) (W .valid .some-leaf, W .few) (W .valid .bounded)
+makes-record v = vector-accepted v (made (recordOf v))
 
 -- a written table is accepted, and its tree is that of the vector
 pub table-back : (v : List ℕ) → Vector v → fromTable (length v) (tableOf v) ≡ made v
@@ -126,8 +123,8 @@ demand-two v W = record {
   text-turned-back = writes (from-newick (textOf (treeOf v))) v (text-back v W);
   record-turned-back = writes (unpacks (recordOf v)) v (record-back v W);
   tree-turned-back = vector-again v (W .valid);
-  relabelled-written = λ p P. writes (relabels v p) _ (relabel-makes v p (W .valid) (W .few) P);
+  relabelled-written = λ p P. writes (relabels v p) _ (relabel-makes v p W P);
   relabelled-tree = λ p P. relabelled v p (W .valid) P;
-  shuffled-written = writes (shuffles v) _ (shuffle-makes v (W .valid) (W .few));
+  shuffled-written = writes (shuffles v) _ (shuffle-makes v W);
   shuffled-tree = shuffled v (W .valid);
 }

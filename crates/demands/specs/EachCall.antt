@@ -79,10 +79,10 @@ asked FromNewick v ok = ask (from-newick (textOf (treeOf v))) v (text-back v ok)
 asked Pack v ok = ask (packs v) (recordOf v) (makes-record v ok)
 asked Unpack v ok = ask (unpacks (recordOf v)) v (record-back v ok)
 asked Shuffle v ok =
-    ask (shuffles v) (newOf (treeOf v), vectorOf (renamed (newOf (treeOf v)) (treeOf v))) (shuffle-makes v (ok .valid) (ok .few))
+    ask (shuffles v) (newOf (treeOf v), vectorOf (renamed (newOf (treeOf v)) (treeOf v))) (shuffle-makes v ok)
 asked Relabel v ok =
     ask (relabels v (unmoved (length v))) (vectorOf (renamed (unmoved (length v)) (treeOf v)))
-    (relabel-makes v (unmoved (length v)) (ok .valid) (ok .few) (unmoved-permutes (length v)))
+    (relabel-makes v (unmoved (length v)) ok (unmoved-permutes (length v)))
 
 -- a vector to try
 abbrev pub Try : Type 0

@@ -28,9 +28,9 @@ use Rattle.shuffle_laws.specs.Renaming.{renamed-below, renamed-clades}
 use Rattle.shuffle_laws.specs.Taken.{new-permutes}
 use Rattle.shuffle_laws.specs.Shuffled.{shuffled-ordered}
 use Rattle.accepting.specs.Guards.{right-length, pass-at}
+use Rattle.accepting.specs.FromVector.{Vector, vector-accepted}
 use Rattle.laws.specs.TreeOf.{tree-leaves}
 use Rattle.laws.specs.OneToOne.{every-tree, only-vector}
-use Rattle.demands.specs.LawVector.{vector-passes}
 
 -- a permutation of the leaves 0 to n-1: n values, each below n and none of them twice
 pub record Permutation (n : ℕ) (p : List ℕ) : Type 0 where
@@ -145,15 +145,15 @@ shuffled v ok =
       ordered = shuffled-ordered L;
     }
 
--- what the two calls make of a valid vector of at most 1,024 entries
-pub relabel-makes : (v p : List ℕ) → Valid v → length v ≤ 1024 → Permutation (length v) p → relabel v p ≡ made (vectorOf (renamed p (treeOf v)))
+-- what the two calls make of a vector that they accept
+pub relabel-makes : (v p : List ℕ) → Vector v → Permutation (length v) p → relabel v p ≡ made (vectorOf (renamed p (treeOf v)))
 unfolding relabel
-relabel-makes v p ok few P =
+relabel-makes v p ok P =
     let E = permutation-exactly (length v) p .0 P in
-    vector-passes v _ (ok .some-leaf, few) (ok .bounded)
+    vector-accepted v _ ok
     ∙ right-length (length v) (length p) _ (E .0)
     ∙ pass-at 11 (permutationFault (length v) 0 [] p) _ (E .1)
 
-pub shuffle-makes : (v : List ℕ) → Valid v → length v ≤ 1024 → shuffle v ≡ made (newOf (treeOf v), vectorOf (renamed (newOf (treeOf v)) (treeOf v)))
+pub shuffle-makes : (v : List ℕ) → Vector v → shuffle v ≡ made (newOf (treeOf v), vectorOf (renamed (newOf (treeOf v)) (treeOf v)))
 unfolding shuffle
-shuffle-makes v ok few = vector-passes v _ (ok .some-leaf, few) (ok .bounded)
+shuffle-makes v = vector-accepted v _

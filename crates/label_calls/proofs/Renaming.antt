@@ -1,4 +1,4 @@
--- What shuffle and relabel make of a sound vector.
+-- What shuffle and relabel make of an accepted vector.
 -- Main results: shuffle-made, new-count, shuffled-count; length-refused, value-refused, relabel-made, renamed-count.
 use mathlib.Core.List.{List, []}
 use mathlib.Core.Logic.{_≢_}
@@ -22,37 +22,37 @@ use Rattle.shuffle_laws.specs.Permutation.{permutes}
 use Rattle.shuffle_laws.specs.Renaming.{renamed-below}
 use Rattle.shuffle_laws.specs.Taken.{new-no-fault}
 use Rattle.shuffle.specs.Marks.{placeOf}
-use Rattle.vector_calls.proofs.Checked.{Sound, sound-made}
+use Rattle.accepting.specs.FromVector.{Vector, vector-accepted}
 
-pub shuffle-made : (v : List ℕ) → Sound v → shuffle v ≡ made (newOf (treeOf v), vectorOf (renamed (newOf (treeOf v)) (treeOf v)))
+pub shuffle-made : (v : List ℕ) → Vector v → shuffle v ≡ made (newOf (treeOf v), vectorOf (renamed (newOf (treeOf v)) (treeOf v)))
 unfolding shuffle
-shuffle-made v S = sound-made v _ S
+shuffle-made v S = vector-accepted v _ S
 
-pub new-count : (v : List ℕ) → Sound v → length (newOf (treeOf v)) ≡ length v
+pub new-count : (v : List ℕ) → Vector v → length (newOf (treeOf v)) ≡ length v
 new-count v S = new-no-fault (tree-leaves v (S .valid)) .0
 
 -- the vector of a renamed tree has an entry for each leaf
-pub renamed-count : (v p : List ℕ) → Sound v → length p ≡ length v → permutationFault (length v) 0 [] p ≡ none → length (vectorOf (renamed p (treeOf v))) ≡ length v
+pub renamed-count : (v p : List ℕ) → Vector v → length p ≡ length v → permutationFault (length v) 0 [] p ≡ none → length (vectorOf (renamed p (treeOf v))) ≡ length v
 renamed-count v p S l f =
     every-tree (length v) (renamed p (treeOf v)) (renamed-below (permutes (length v) p l f) (tree-leaves v (S .valid))) .entries
 
-pub shuffled-count : (v : List ℕ) → Sound v → length (vectorOf (renamed (newOf (treeOf v)) (treeOf v))) ≡ length v
+pub shuffled-count : (v : List ℕ) → Vector v → length (vectorOf (renamed (newOf (treeOf v)) (treeOf v))) ≡ length v
 shuffled-count v S =
     let w = new-no-fault (tree-leaves v (S .valid)) in
     renamed-count v (newOf (treeOf v)) S (w .0) (w .1)
 
 -- "2 (permutation length not n)"
-pub length-refused : (v p : List ℕ) → Sound v → length p ≢ length v → relabel v p ≡ refuses 2 (length v)
+pub length-refused : (v p : List ℕ) → Vector v → length p ≢ length v → relabel v p ≡ refuses 2 (length v)
 unfolding relabel
-length-refused v p S d = sound-made v _ S ∙ wrong-length (length v) (length p) _ d
+length-refused v p S d = vector-accepted v _ S ∙ wrong-length (length v) (length p) _ d
 
 -- 11: "permutation value not below n, or used before"
-pub value-refused : (v p : List ℕ) (i : ℕ) → Sound v → length p ≡ length v → permutationFault (length v) 0 [] p ≡ placeOf (length p) i → i < length v
+pub value-refused : (v p : List ℕ) (i : ℕ) → Vector v → length p ≡ length v → permutationFault (length v) 0 [] p ≡ placeOf (length p) i → i < length v
     → relabel v p ≡ refuses 11 i
 unfolding relabel placeOf
 value-refused v p i S l f h =
     let k : i < length p = omega arith in
-    sound-made v _ S ∙ right-length (length v) (length p) _ l
+    vector-accepted v _ S ∙ right-length (length v) (length p) _ l
     ∙ refuse-at 11 i (permutationFault (length v) 0 [] p) _ (f ∙ rw (lt-ltb i (length p) k))
 
 -- what the search of the permutation says where it found nothing
@@ -60,8 +60,8 @@ pub no-value-fault : (n : ℕ) (p : List ℕ) (i : ℕ) → length p ≡ n → p
 unfolding placeOf
 no-value-fault n p i l f h = let k : length p ≤ i = omega arith in f ∙ rw (le-ltb i (length p) k)
 
-pub relabel-made : (v p : List ℕ) → Sound v → length p ≡ length v → permutationFault (length v) 0 [] p ≡ none
+pub relabel-made : (v p : List ℕ) → Vector v → length p ≡ length v → permutationFault (length v) 0 [] p ≡ none
     → relabel v p ≡ made (vectorOf (renamed p (treeOf v)))
 unfolding relabel
 relabel-made v p S l f =
-    sound-made v _ S ∙ right-length (length v) (length p) _ l ∙ pass-at 11 (permutationFault (length v) 0 [] p) _ f
+    vector-accepted v _ S ∙ right-length (length v) (length p) _ l ∙ pass-at 11 (permutationFault (length v) 0 [] p) _ f

@@ -1,4 +1,4 @@
--- What pack makes of a sound vector, and what unpack answers at each of its ends.
+-- What pack makes of an accepted vector, and what unpack answers at each of its ends.
 -- Main results: record-made; headed-of, length-fails.
 use mathlib.Core.List.{List, _++_}
 use mathlib.Core.Logic.{_≢_}
@@ -13,11 +13,11 @@ use Rattle.rules.specs.CallPack.{pack}
 use Rattle.rules.specs.CallUnpack.{unpack}
 use Rattle.accepting.specs.FromRecord.{Headed, wrong-record, padding-refused}
 use Rattle.record_laws.specs.Width.{record-length-least}
-use Rattle.vector_calls.proofs.Checked.{Sound, sound-made}
+use Rattle.accepting.specs.FromVector.{Vector, vector-accepted}
 
-pub record-made : (v : List ℕ) → Sound v → pack v ≡ made (recordOf v)
+pub record-made : (v : List ℕ) → Vector v → pack v ≡ made (recordOf v)
 unfolding pack
-record-made v S = sound-made v (made (recordOf v)) S
+record-made v S = vector-accepted v (made (recordOf v)) S
 
 pub headed-of : (s : List ℕ) (n wanted : ℕ) → 2 ≤ length s → n ≡ leafCount s → n ≢ 0 → n ≤ 1024 → wanted ≡ recordLength n → length s ≡ wanted → Headed s n
 headed-of s n wanted h c d u e w = record { two-bytes = h; count = c; some-leaf = omega arith; few = u; whole = w ∙ e }

@@ -1,4 +1,4 @@
--- What to_newick makes of a sound vector.
+-- What to_newick makes of an accepted vector.
 -- Main results: text-made, text-count.
 use mathlib.Core.List.{List}
 use mathlib.Core.Path.{_≡_}
@@ -10,11 +10,11 @@ use Rattle.rules.specs.Answer.{made}
 use Rattle.rules.specs.CallToNewick.{toText}
 use Rattle.laws.specs.TreeOf.{tree-leaves}
 use Rattle.grammar.specs.Length.{textLength, text-length}
-use Rattle.vector_calls.proofs.Checked.{Sound, sound-made}
+use Rattle.accepting.specs.FromVector.{Vector, vector-accepted}
 
-pub text-made : (v : List ℕ) → Sound v → toText v ≡ made (textOf (treeOf v))
+pub text-made : (v : List ℕ) → Vector v → toText v ≡ made (textOf (treeOf v))
 unfolding toText
-text-made v S = sound-made v (made (textOf (treeOf v))) S
+text-made v S = vector-accepted v (made (textOf (treeOf v))) S
 
-pub text-count : (v : List ℕ) → Sound v → length (textOf (treeOf v)) ≡ textLength (length v)
+pub text-count : (v : List ℕ) → Vector v → length (textOf (treeOf v)) ≡ textLength (length v)
 text-count v S = text-length (length v) (treeOf v) (tree-leaves v (S .valid))

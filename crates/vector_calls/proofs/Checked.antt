@@ -1,15 +1,10 @@
 -- What the check of a vector answers, and what a call that begins from a vector may then say.
--- Main definitions: Seen, Sound. Main results: empty-refused, large-refused, fault-refused, passes; refused-alike, checked-sound, sound-made.
-use mathlib.Core.Bool.{Bool, true, false}
-use mathlib.Core.List.{List, []}
-use mathlib.Core.Option.{Option, none, some}
-use mathlib.Core.Path.{_≡_, refl, sym, ap, _∙_, subst}
+-- Main results: empty-refused, large-refused, fault-refused, passes; refused-alike, checked-sound.
+use mathlib.Core.List.{List}
+use mathlib.Core.Path.{_≡_, sym, ap, _∙_, subst}
 use Prim.Native.Nat.{ℕ, _≤_, _<_}
 use native.Mathlib.Omega.{arith}
-use lib.Dec.{eqb, ltb}
 use lib.ListN.{length}
-use borrow.Author.Tests.{ltb-true, ltb-false, eqb-true, eqb-false}
-use Rattle.rules.specs.Vector.{Valid, fault}
 use Rattle.rules.specs.Answer.{Making, made, refuses, reads}
 use Rattle.rules.specs.Promise.{Call, answers, Keeps}
 use Rattle.rules.specs.CallCheck.{check, check-call}
@@ -19,8 +14,7 @@ use Rattle.rules.specs.declared.Answer.the-variants.{Done, Refused}
 use Rattle.rules.specs.Guards.{fromVector}
 use Rattle.accepting.specs.Answers.{done-not-refused}
 use Rattle.accepting.specs.Kept.{refused-early}
-use Rattle.accepting.specs.FromVector.{no-entry, many-entries, above-bound, within-bounds}
-use Rattle.basics.specs.Fault.{no-fault-valid, valid-no-fault}
+use Rattle.accepting.specs.FromVector.{no-entry, many-entries, above-bound, within-bounds, Vector, Seen, faulty, sound, seen}
 use Rattle.vector.specs.Fault.{firstFault, first-fault-some, first-fault-none}
 
 pub empty-refused : (v : List ℕ) → length v ≡ 0 → check v ≡ refuses 1 0
@@ -43,26 +37,6 @@ passes v i l u e h =
     let k : length v ≤ firstFault v = omega arith in
     within-bounds v (made tt) l u (first-fault-none v k)
 
--- A vector is refused by every call that begins from one, or it is valid and the call goes on.
-pub data Seen (v : List ℕ) : Type 1 where
-  faulty : (number place : ℕ) → ((W : Type 0) (m : Making W) → fromVector v m ≡ refuses number place) → Seen v
-  sound : Valid v → length v ≤ 1024 → ((W : Type 0) (m : Making W) → fromVector v m ≡ m) → Seen v
-
-pub seen : (v : List ℕ) → Seen v
-seen v = count (eqb (length v) 0) refl
-  where
-    entries : 1 ≤ length v → length v ≤ 1024 → (o : Option ℕ) → fault 0 v ≡ o → Seen v
-    entries l u (some i) e = faulty 4 i (λ W m. above-bound v m i l u e)
-    entries l u none e = sound (no-fault-valid v l e) u (λ W m. within-bounds v m l u e)
-
-    large : 1 ≤ length v → (b : Bool) → ltb 1024 (length v) ≡ b → Seen v
-    large l true q = faulty 1 0 (λ W m. many-entries v m (ltb-true 1024 (length v) q))
-    large l false q = entries l (ltb-false 1024 (length v) q) (fault 0 v) refl
-
-    count : (b : Bool) → eqb (length v) 0 ≡ b → Seen v
-    count true q = faulty 1 0 (λ W m. no-entry v m (eqb-true (length v) 0 q))
-    count false q = large (omega (arith, eqb-false (length v) 0 q)) (ltb 1024 (length v)) refl
-
 -- A refusal of the check is the refusal of every call that begins from the vector, whatever it would make.
 pub refused-alike : {L W : Type 0} (v : List ℕ) (c : Call L W) (m : Making W) {old : L} {r : Answer} {why : Refusal} → c .Makes (fromVector v m)
     → Keeps (check-call v) tt r tt → r ≡ Refused why → Keeps c old (Refused why) old
@@ -74,23 +48,16 @@ refused-alike {L} {W} v c m {old} {r} {why} h K e = go (seen v)
 
     go : Seen v → Keeps c old (Refused why) old
     go (faulty number place f) = refused-early c (subst (c .Makes) (f W m) h) (says (refuses number place) (f (Unit {0}) (made tt)))
-    go (sound ok u f) = absurd (done-not-refused 0 _ _ (sym (says (made tt) (f (Unit {0}) (made tt)))))
+    go (sound ok f) = absurd (done-not-refused 0 _ _ (sym (says (made tt) (f (Unit {0}) (made tt)))))
 
--- What a call knows of its vector where the check did not refuse it.
-pub record Sound (v : List ℕ) : Type 0 where
-  pub valid : Valid v
-  pub small : length v ≤ 1024
-
-pub checked-sound : {v : List ℕ} {r : Answer} {k : ℕ} → Keeps (check-call v) tt r tt → r ≡ Done k → Sound v
+-- what a call knows of its vector where the check did not refuse it
+pub checked-sound : {v : List ℕ} {r : Answer} {k : ℕ} → Keeps (check-call v) tt r tt → r ≡ Done k → Vector v
 unfolding check answers reads
 checked-sound {v} {r} {k} K e = go (seen v)
   where
-    go : Seen v → Sound v
+    go : Seen v → Vector v
     go (faulty number place f) =
         absurd
         (done-not-refused k number place
         (ap reads (sym e) ∙ K .answered ∙ ap (λ (y : Making (Unit {0})). answers (check-call v) y tt) (sym (K .made-so) ∙ f (Unit {0}) (made tt))))
-    go (sound ok u f) = record { valid = ok; small = u }
-
-pub sound-made : {W : Type 0} (v : List ℕ) (m : Making W) → Sound v → fromVector v m ≡ m
-sound-made v m S = within-bounds v m (S .valid .some-leaf) (S .small) (valid-no-fault v (S .valid))
+    go (sound ok f) = ok

@@ -33,7 +33,7 @@ returns c = let S = checked-sound (c .before .before .before .before .check .ens
     refused-early _ (length-refused _ _ S (c .before .if1 .taken)) (c .refuse .ensures)
 
 permutation-fault-requires : tie.Need-permutation-fault-requires
-permutation-fault-requires c κs = checked-sound (c .before .before .before .check .ensures) (c .before .enum-told .given .1) .small
+permutation-fault-requires c κs = checked-sound (c .before .before .before .check .ensures) (c .before .enum-told .given .1) .few
 
 refuse-requires-2 : tie.Need-refuse-requires-2
 refuse-requires-2 c κs = search needs
@@ -54,7 +54,7 @@ returns-3 c = let S = checked-sound (c .before .before .before .before .before .
 
 renamed-vector-requires : tie.Need-renamed-vector-requires
 renamed-vector-requires c κs = let S = checked-sound (c .before .before .before .before .before .before .before .check .ensures) (c .before .before .before .before .before .enum-told .given .1) in
-    ((S .valid, S .small, c .before .if3 .left), (c .before .before .before .before .if1 .left, no-value-fault _ _ _ (c .before .before .before .before .if1 .left) (c .before .before .before .permutation-fault .ensures .1) (c .before .before .if2 .left)))
+    ((S .valid, S .few, c .before .if3 .left), (c .before .before .before .before .if1 .left, no-value-fault _ _ _ (c .before .before .before .before .if1 .left) (c .before .before .before .permutation-fault .ensures .1) (c .before .before .if2 .left)))
 
 returns-4 : tie.Need-returns-4
 unfolding calls.relabel

@@ -27,7 +27,7 @@ enum-told c = search needs
 
 record-length-requires : tie.Need-record-length-requires
 record-length-requires c κs = let S = checked-sound (c .before .before .check .ensures) (c .enum-told .given .1) in
-    (S .valid .some-leaf, S .small)
+    (S .valid .some-leaf, S .few)
 
 refuse-requires : tie.Need-refuse-requires
 refuse-requires c κs = search needs
@@ -39,7 +39,7 @@ returns c = let S = checked-sound (c .before .before .before .before .before .ch
 
 pack-into-requires : tie.Need-pack-into-requires
 pack-into-requires c κs = let S = checked-sound (c .before .before .before .before .before .check .ensures) (c .before .before .before .enum-told .given .1) in
-    (S .valid, S .small, rw (c .before .before .record-length .ensures) at (c .before .if1 .left))
+    (S .valid, S .few, rw (c .before .before .record-length .ensures) at (c .before .if1 .left))
 
 returns-2 : tie.Need-returns-2
 unfolding calls.pack

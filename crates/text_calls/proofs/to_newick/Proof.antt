@@ -26,7 +26,7 @@ enum-told c = search needs
 
 text-length-requires : tie.Need-text-length-requires
 text-length-requires c κs = let S = checked-sound (c .before .before .check .ensures) (c .enum-told .given .1) in
-    (S .valid .some-leaf, S .small)
+    (S .valid .some-leaf, S .few)
 
 refuse-requires : tie.Need-refuse-requires
 refuse-requires c κs = search needs
@@ -38,7 +38,7 @@ returns c = let S = checked-sound (c .before .before .before .before .before .ch
 
 write-tree-requires : tie.Need-write-tree-requires
 write-tree-requires c κs = let S = checked-sound (c .before .before .before .before .before .check .ensures) (c .before .before .before .enum-told .given .1) in
-    (S .valid, S .small, rw (c .before .before .text-length .ensures) at (c .before .if1 .left))
+    (S .valid, S .few, rw (c .before .before .text-length .ensures) at (c .before .if1 .left))
 
 returns-2 : tie.Need-returns-2
 unfolding calls.toText
