@@ -12,7 +12,7 @@ use borrow.Author.Tests.{ltb-true, ltb-false, eqb-true, eqb-false}
 use Rattle.rules.specs.Vector.{entry, bound, fault}
 use Rattle.rules.specs.Answer.{Making, refuses}
 use Rattle.rules.specs.Guards.{refuseCount}
-use Rattle.searching.specs.First.{Found, first-at, nowhere, found-first, found-none}
+use Rattle.searching.specs.First.{FirstFound, first-at, nowhere, found-first, found-none}
 use Rattle.accepting.specs.Guards.{no-leaf, many-leaves, some-leaves}
 use Rattle.demands.specs.Conditions.{First, CountWrong, CountRight, Above, WithinBounds}
 use Rattle.demands.specs.FirstPlace.{above-found}
@@ -59,6 +59,6 @@ none-above v h i l = go (ltb (bound i) (entry v i)) refl
 pub above-cases : (v : List ℕ) → ((i : ℕ) × First (Above v) i) ⊎ WithinBounds v
 above-cases v = go (above-found v)
   where
-    go : Found (Above v) (λ i w. i) (fault 0 v) → ((i : ℕ) × First (Above v) i) ⊎ WithinBounds v
+    go : FirstFound (Above v) (λ i w. i) (fault 0 v) → ((i : ℕ) × First (Above v) i) ⊎ WithinBounds v
     go (first-at i f e) = inl (i, f)
     go (nowhere e right) = inr (none-above v right)

@@ -27,7 +27,7 @@ use Rattle.rows.specs.Clades.{rows-clades}
 use Rattle.record_laws.specs.Inverse.{length-entries}
 use Rattle.grammar.specs.Complete.{text-unique}
 use Rattle.grammar.specs.Faults.{no-fault-leaves}
-use Rattle.searching.specs.First.{Found, first-at, nowhere}
+use Rattle.searching.specs.First.{FirstFound, first-at, nowhere}
 use Rattle.accepting.specs.FromTable.{rows-accepted}
 use Rattle.laws.specs.OneToOne.{every-tree, same-clades-same-vector}
 use Rattle.demands.specs.Conditions.{CountWrong, CountRight, WithinBounds, First, Above, Unfit, labelNumbers, labelPlace}
@@ -101,7 +101,7 @@ text-leads s w m (reads-as t a b) e = go (count-cases (length (labelsOf s))) (la
     right = made-accepted _ _ _ (lawful-from-newick s) (fromLabels s t) (reads-as t a b) w e
 
     go : CountWrong (length (labelsOf s)) ⊎ CountRight (length (labelsOf s))
-        → Found (Unfit (length (labelsOf s)) (labelNumbers s)) (λ i w. labelPlace s i) (labelFault (length (labelsOf s)) [] (labelsOf s))
+        → FirstFound (Unfit (length (labelsOf s)) (labelNumbers s)) (λ i w. labelPlace s i) (labelFault (length (labelsOf s)) [] (labelsOf s))
         → (t : Tree) × (n : ℕ) × Text s t × LeavesBelow n t × (n ≤ 1024) × (w ≡ vectorOf t)
     go (inl c) f = absurd (right 1 0 (text-1 a b c))
     go (inr c) (first-at i f g) = absurd (right 9 (labelPlace s i) (text-9 a b c f))

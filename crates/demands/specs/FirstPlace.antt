@@ -17,12 +17,12 @@ use Rattle.rules.specs.Newick.{Placed, labelFault}
 use Rattle.rules.specs.Record.{bitsOf, total, anySet, padding}
 use Rattle.rules.specs.Shuffle.{permutationFault}
 use Rattle.basics.specs.Bools.{or-cases, or-left, or-right}
-use Rattle.searching.specs.First.{Tells, tells-if, if-or-else, Below, Found, found-same}
+use Rattle.searching.specs.First.{Tells, tells-if, if-or-else, Below, FirstFound, found-same}
 use Rattle.searching.specs.Walked.{Walk, gathered, gathered-some, walk-found}
 use Rattle.demands.specs.Conditions.{Above, Unfit, PaddingSet}
 
 -- 4: the first entry above its bound
-pub above-found : (v : List ℕ) → Found (Above v) (λ i w. i) (fault 0 v)
+pub above-found : (v : List ℕ) → FirstFound (Above v) (λ i w. i) (fault 0 v)
 unfolding fault entry
 above-found v =
     walk-found W 0 tt v (λ i. bound i < entry v i) (λ i w. i)
@@ -71,7 +71,7 @@ UnfitAt n number i = (n ≤ number i) ⊎ ((j : ℕ) × (j < i) × (number j ≡
 -- a walk that tests the number of each element finds the first such one
 unfit-walk : {A : Type 0} (n : ℕ) (number : A → ℕ) (place : ℕ → A → ℕ) (past : A) (xs : List A) (walk : ℕ → List ℕ → List A → Option ℕ)
     → Walk (λ i used x. cond (not (ltb (number x) n) || member (number x) used) (some (place i x)) none) (λ used x. number x ∷ used) walk
-    → Found (Below (length xs) (UnfitAt n (λ i. number (getD xs i past)))) (λ i w. place i (getD xs i past)) (walk 0 [] xs)
+    → FirstFound (Below (length xs) (UnfitAt n (λ i. number (getD xs i past)))) (λ i w. place i (getD xs i past)) (walk 0 [] xs)
 unfit-walk n number place past xs walk W =
     walk-found W past [] xs (UnfitAt n at) (λ i w. place i (getD xs i past))
     (λ i h. unfit-tells n (at i) (gathered (λ used x. number x ∷ used) past [] xs i) _ (place i (getD xs i past)) (used-before number past xs (at i) i))
@@ -80,7 +80,7 @@ unfit-walk n number place past xs walk W =
     at i = number (getD xs i past)
 
 -- 11: the first value that is not below n, or used before
-pub unfit-found : (n : ℕ) (p : List ℕ) → Found (Unfit n p) (λ i w. i) (permutationFault n 0 [] p)
+pub unfit-found : (n : ℕ) (p : List ℕ) → FirstFound (Unfit n p) (λ i w. i) (permutationFault n 0 [] p)
 unfolding permutationFault entry
 unfit-found n p =
     unfit-walk n (λ x. x) (λ i x. i) 0 p (permutationFault n)
@@ -94,7 +94,7 @@ unfit-same : (n : ℕ) (x y : ℕ → ℕ) → ((i : ℕ) → x i ≡ y i) → (
 unfit-same n x y e i (inl h) = inl (omega (arith, e i))
 unfit-same n x y e i (inr u) = inr (u .0, u .1, omega (arith, e i, e (u .0), u .2))
 
-pub label-found : (n : ℕ) (ls : List Placed) → Found (Unfit n (map value ls)) (λ i w. getD ls i (0, 0) .0) (labelFault n [] ls)
+pub label-found : (n : ℕ) (ls : List Placed) → FirstFound (Unfit n (map value ls)) (λ i w. getD ls i (0, 0) .0) (labelFault n [] ls)
 unfolding labelFault entry
 label-found n ls =
     found-same (λ i w. getD ls i (0, 0) .0)

@@ -12,7 +12,7 @@ use borrow.Author.Tests.{ltb-true, ltb-false, eqb-true, eqb-false, eq-eqb}
 use Rattle.rules.specs.Table.{Row, Fault, rowFault, tableFault, childrenBelow, namedTwice}
 use Rattle.basics.specs.Bools.{or-left, or-right}
 use Rattle.rows.specs.Forest.{namedAlso}
-use Rattle.searching.specs.First.{First, Tells, is-wrong, is-right, orElse, Found, found-first, found-same}
+use Rattle.searching.specs.First.{First, Tells, is-wrong, is-right, orElse, FirstFound, found-first, found-same}
 use Rattle.searching.specs.Walked.{Walk, gathered, gathered-some, walk-found}
 use Rattle.demands.specs.Conditions.{rowAt, NamedBefore, WrongRow, parent-wrong, child-not-below, child-named, RowWrong, FirstRow}
 
@@ -109,7 +109,7 @@ abbrev pub WrongAt : ℕ → List Row → ℕ → Type 0
 WrongAt n rs t = (k : ℕ) × RowWrong n rs k t
 
 abbrev pub RowFound : ℕ → List Row → Type 0
-RowFound n rs = Found (WrongAt n rs) (λ t w. (w .0, t)) (tableFault n rs)
+RowFound n rs = FirstFound (WrongAt n rs) (λ t w. (w .0, t)) (tableFault n rs)
 
 pub row-found : (n : ℕ) (rs : List Row) → RowFound n rs
 unfolding tableFault rowFault namedAlso

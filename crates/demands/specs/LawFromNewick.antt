@@ -16,7 +16,7 @@ use Rattle.rules.specs.Guards.{refuseAt}
 use Rattle.rules.specs.CallFromNewick.{FromText, too-long, breaks, reads-as, fromLabels, from-newick-call}
 use Rattle.grammar.specs.Labels.{text-label-count}
 use Rattle.grammar.specs.Unique.{from-text-total, from-text-unique}
-use Rattle.searching.specs.First.{Found, first-at, nowhere, found-first}
+use Rattle.searching.specs.First.{FirstFound, first-at, nowhere, found-first}
 use Rattle.accepting.specs.Guards.{refuse-at, pass-at}
 use Rattle.demands.specs.Conditions.{First, CountWrong, CountRight, Unfit, labelNumbers, labelPlace}
 use Rattle.demands.specs.FirstPlace.{label-found}
@@ -77,7 +77,7 @@ settled-from-text s m h = record { of-input = kinds; given = refused-so; total =
     go (reads-as t a b) = at (count-cases (length (labelsOf s))) (label-found (length (labelsOf s)) (labelsOf s))
       where
         at : CountWrong (length (labelsOf s)) ⊎ CountRight (length (labelsOf s))
-            → Found (Unfit (length (labelsOf s)) (labelNumbers s)) (λ i w. labelPlace s i) (labelFault (length (labelsOf s)) [] (labelsOf s))
+            → FirstFound (Unfit (length (labelsOf s)) (labelNumbers s)) (λ i w. labelPlace s i) (labelFault (length (labelsOf s)) [] (labelsOf s))
             → ((k : ℕ) × (p : ℕ) × TextRefused s k p) ⊎ ((ys : List ℕ) × (fromLabels s t ≡ made ys) × (length ys ≡ length (labelsOf s)))
         at (inl c) f = inl (1, 0, text-1 a b c)
         at (inr c) (first-at i f e) = inl (9, labelPlace s i, text-9 a b c f)

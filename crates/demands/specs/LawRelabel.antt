@@ -15,7 +15,7 @@ use Rattle.rules.specs.Answer.{numberOf, Made, made, refuses}
 use Rattle.rules.specs.Promise.{list}
 use Rattle.rules.specs.Guards.{refuseAt, refuseLength, fromVector}
 use Rattle.rules.specs.CallRelabel.{relabel, relabel-call}
-use Rattle.searching.specs.First.{Found, first-at, nowhere, found-first}
+use Rattle.searching.specs.First.{FirstFound, first-at, nowhere, found-first}
 use Rattle.accepting.specs.Guards.{wrong-length, right-length, refuse-at}
 use Rattle.demands.specs.Conditions.{First, CountRight, WithinBounds, Unfit}
 use Rattle.demands.specs.FirstPlace.{unfit-found}
@@ -58,7 +58,7 @@ settled-relabel v p = record {
 
     go : ((k : ℕ) × (i : ℕ) × VectorRefused v k i) ⊎ (CountRight (length v) × WithinBounds v)
         → (length p ≢ length v) ⊎ (length p ≡ length v)
-        → Found (Unfit (length v) p) (λ i w. i) (permutationFault (length v) 0 [] p)
+        → FirstFound (Unfit (length v) p) (λ i w. i) (permutationFault (length v) 0 [] p)
         → ((k : ℕ) × (i : ℕ) × RelabelRefused v p k i)
         ⊎ ((xs : List ℕ) × (fromVector v (refuseLength (length v) (length p) (refuseAt 11 (permutationFault (length v) 0 [] p) last)) ≡ made xs) × (length xs ≡ length v))
     go (inl r) l u = inl (r .0, r .1, relabel-vector (r .2))

@@ -1,5 +1,5 @@
 -- "Of one number, the first place counts": the first of any number of places at which something is wrong, and what is said of it.
--- Main definitions: First, Tells, firstBelow, Found. Main results: first-unique, first-below-found, found-first, found-none, found-same.
+-- Main definitions: First, Tells, firstBelow, FirstFound. Main results: first-unique, first-below-found, found-first, found-none, found-same.
 use mathlib.Core.Bool.{Bool, true, false, cond}
 use mathlib.Core.Logic.{_⊎_, inl, inr}
 use mathlib.Core.Option.{Option, none, some}
@@ -49,9 +49,9 @@ firstBelow test zero = none
 firstBelow test (suc n) = orElse (firstBelow test n) (test n)
 
 -- what a search has found: what is to be said of the first place that is wrong, or that none is
-pub data Found {B : Type 0} (Wrong : ℕ → Type 0) (says : (i : ℕ) → Wrong i → B) (o : Option B) : Type 0 where
-  first-at : (i : ℕ) (f : First Wrong i) → o ≡ some (says i (f .0)) → Found Wrong says o
-  nowhere : o ≡ none → ((j : ℕ) → Wrong j → ⊥) → Found Wrong says o
+pub data FirstFound {B : Type 0} (Wrong : ℕ → Type 0) (says : (i : ℕ) → Wrong i → B) (o : Option B) : Type 0 where
+  first-at : (i : ℕ) (f : First Wrong i) → o ≡ some (says i (f .0)) → FirstFound Wrong says o
+  nowhere : o ≡ none → ((j : ℕ) → Wrong j → ⊥) → FirstFound Wrong says o
 
 -- a place below n, at which something is wrong
 abbrev pub Below : ℕ → (ℕ → Type 0) → ℕ → Type 0
@@ -59,14 +59,14 @@ Below n Wrong i = (i < n) × Wrong i
 
 -- where each test below n tells what is wrong at its place, the search finds the first
 pub first-below-found : {B : Type 0} (Wrong : ℕ → Type 0) (says : (i : ℕ) → Wrong i → B) (test : ℕ → Option B) (n : ℕ)
-    → ((i : ℕ) → i < n → Tells (Wrong i) (says i) (test i)) → Found (Below n Wrong) (λ i w. says i (w .1)) (firstBelow test n)
+    → ((i : ℕ) → i < n → Tells (Wrong i) (says i) (test i)) → FirstFound (Below n Wrong) (λ i w. says i (w .1)) (firstBelow test n)
 unfolding firstBelow orElse
 first-below-found Wrong says test zero tells = nowhere refl (λ j w. omega (arith, w .0))
 first-below-found {B} Wrong says test (suc n) tells =
     go (firstBelow test n) (first-below-found Wrong says test n (λ i h. tells i (omega arith))) (tells n (omega arith))
   where
-    go : (o : Option B) → Found (Below n Wrong) (λ i w. says i (w .1)) o → Tells (Wrong n) (says n) (test n)
-        → Found (Below (suc n) Wrong) (λ i w. says i (w .1)) (orElse o (test n))
+    go : (o : Option B) → FirstFound (Below n Wrong) (λ i w. says i (w .1)) o → Tells (Wrong n) (says n) (test n)
+        → FirstFound (Below (suc n) Wrong) (λ i w. says i (w .1)) (orElse o (test n))
     go o (first-at i f e) t = first-at i ((omega (arith, f .0 .0), f .0 .1), λ j h w. f .1 j h (omega (arith, f .0 .0), w .1)) (rw e refl)
     go o (nowhere e right) (is-wrong w d) = first-at n ((omega arith, w), λ j h u. right j (h, u .1)) (rw e d)
     go o (nowhere e right) (is-right d none-here) = nowhere (rw e d) never
@@ -79,7 +79,7 @@ first-below-found {B} Wrong says test (suc n) tells =
             at (inr l) = right j (l, w .1)
 
 -- exactly when: a first place that is wrong is the one found, where one thing at most is said of it
-pub found-first : {B : Type 0} {Wrong : ℕ → Type 0} {says : (i : ℕ) → Wrong i → B} {o : Option B} → Found Wrong says o
+pub found-first : {B : Type 0} {Wrong : ℕ → Type 0} {says : (i : ℕ) → Wrong i → B} {o : Option B} → FirstFound Wrong says o
     → (i : ℕ) (f : First Wrong i) → ((w : Wrong i) → says i w ≡ says i (f .0)) → o ≡ some (says i (f .0))
 found-first {B} {Wrong} {says} {o} (first-at j g e) i f one = at j (first-unique Wrong j i g f) g e
   where
@@ -88,14 +88,14 @@ found-first {B} {Wrong} {says} {o} (first-at j g e) i f one = at j (first-unique
 found-first (nowhere e right) i f one = absurd (right i (f .0))
 
 -- and nothing is found where nothing is wrong
-pub found-none : {B : Type 0} {Wrong : ℕ → Type 0} {says : (i : ℕ) → Wrong i → B} {o : Option B} → Found Wrong says o
+pub found-none : {B : Type 0} {Wrong : ℕ → Type 0} {says : (i : ℕ) → Wrong i → B} {o : Option B} → FirstFound Wrong says o
     → ((j : ℕ) → Wrong j → ⊥) → o ≡ none
 found-none (first-at i f e) right = absurd (right i (f .0))
 found-none (nowhere e never) right = e
 
 -- the same that is wrong, said in another way
-pub found-same : {B : Type 0} {W U : ℕ → Type 0} {says : (i : ℕ) → W i → B} (says′ : (i : ℕ) → U i → B) {o : Option B} → Found W says o
-    → (there : (j : ℕ) → W j → U j) → ((j : ℕ) → U j → W j) → ((j : ℕ) (w : W j) → says j w ≡ says′ j (there j w)) → Found U says′ o
+pub found-same : {B : Type 0} {W U : ℕ → Type 0} {says : (i : ℕ) → W i → B} (says′ : (i : ℕ) → U i → B) {o : Option B} → FirstFound W says o
+    → (there : (j : ℕ) → W j → U j) → ((j : ℕ) → U j → W j) → ((j : ℕ) (w : W j) → says j w ≡ says′ j (there j w)) → FirstFound U says′ o
 found-same says′ (first-at i f e) there back same =
     first-at i (there i (f .0), λ j h u. f .1 j h (back j u)) (e ∙ ap some (same i (f .0)))
 found-same says′ (nowhere e right) there back same = nowhere e (λ j u. right j (back j u))

@@ -8,7 +8,7 @@ use Prim.Native.Nat.{ℕ, zero, suc, _+_, _<_}
 use native.Mathlib.Omega.{arith}
 use native.Mathlib.Nat.{eq-or-lt-of-le, le-of-suc-le-suc}
 use lib.ListN.{length, getD}
-use Rattle.searching.specs.First.{Tells, orElse, firstBelow, Below, Found, first-below-found}
+use Rattle.searching.specs.First.{Tells, orElse, firstBelow, Below, FirstFound, first-below-found}
 
 -- what one says, else another, else a third
 or-else-again : {B : Type 0} (a b c : Option B) → orElse (orElse a b) c ≡ orElse a (orElse b c)
@@ -107,7 +107,7 @@ module _ {S A B : Type 0} {test : ℕ → S → A → Option B} {next : S → A 
   -- so it finds the first place that is wrong, where each test tells what is wrong at its place
   pub walk-found : (s : S) (xs : List A) (Wrong : ℕ → Type 0) (says : (i : ℕ) → Wrong i → B)
       → ((i : ℕ) → i < length xs → Tells (Wrong i) (says i) (test i (gathered next past s xs i) (getD xs i past)))
-      → Found (Below (length xs) Wrong) (λ i w. says i (w .1)) (walk 0 s xs)
+      → FirstFound (Below (length xs) Wrong) (λ i w. says i (w .1)) (walk 0 s xs)
   walk-found s xs Wrong says tells =
       rw (walk-is-search s xs)
       (first-below-found Wrong says (λ i. test i (gathered next past s xs i) (getD xs i past)) (length xs) tells)
