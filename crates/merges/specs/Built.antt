@@ -1,5 +1,5 @@
 -- The loop that builds the merges of a vector: the two lists hold the merges of the first i entries.
--- Main definitions: Built, Turn, Put. Main results: built-start, turn, put-front, put-behind, built-next, built-end.
+-- Main definitions: Built, NextLeaf, Put. Main results: built-start, next-leaf, put-front, put-behind, built-next, built-end.
 use mathlib.Core.Path.{_≡_, refl, sym, ap, ap₂, _∙_}
 use mathlib.Core.List.{List, _∷_, map}
 use Prim.Native.Nat.{ℕ, suc, _+_, _-_, _*_, _≤_, _<_}
@@ -12,7 +12,7 @@ use Rattle.rules.specs.Vector.{entry, bound, Valid}
 use Rattle.rules.specs.Building.{Merge}
 use Rattle.merging.specs.Insertion.{pairsOf, pairs, pairs-count}
 use Rattle.merging.specs.Greedy.{Under, under-pairs}
-use Rattle.merges.specs.Moved.{ins, ins-before}
+use Rattle.insertion.specs.Moved.{ins, ins-before}
 use Rattle.merges.specs.Held.{held, place, nameAt, nameIn, pairs-next, larger-below, merge-at, same-name, held-next}
 
 -- list from lo on and small hold the merges of the first i entries
@@ -42,7 +42,7 @@ built-start ok few size size-small = record {
 }
 
 -- where leaf i's merge can be put, whose entry is x
-pub record Turn (list small : List ℕ) (lo i x : ℕ) : Type 0 where
+pub record NextLeaf (list small : List ℕ) (lo i x : ℕ) : Type 0 where
   pub top : x ≤ 2 * (i - 1)
   pub low : 1 ≤ i
   pub first : 16 ≤ lo
@@ -66,7 +66,7 @@ from-store l k a h =
     ∙ ap₂ (λ (x : ℕ) (r : List ℕ). x ∷ r) (getD-set-same l k a 0 h) (drop-set-lt (suc k) l k a (omega arith) ∙ ap (λ (n : ℕ). drop n l) (sym (add-one k)))
 
 -- an entry below i names a leaf: its merge goes in front
-pub put-front : {list small : List ℕ} {lo i x : ℕ} → Turn list small lo i x → x < i → Put list small lo i x (set list (lo - 1) i) (set small i x) (lo - 1)
+pub put-front : {list small : List ℕ} {lo i x : ℕ} → NextLeaf list small lo i x → x < i → Put list small lo i x (set list (lo - 1) i) (set small i x) (lo - 1)
 unfolding place nameAt ins
 put-front {list} {small} {lo} {i} {x} T h =
     let p = T .first in
@@ -90,7 +90,7 @@ counted-stays list list′ lo lo′ m d w h room e =
     ∙ getD-take m (drop lo list) d 0 (omega arith)
     ∙ getD-drop lo list d 0
 
-pub counted-inside : {list small : List ℕ} {lo i x d : ℕ} (list′ : List ℕ) (lo′ : ℕ) → Turn list small lo i x → i ≤ x → d ≡ x - i
+pub counted-inside : {list small : List ℕ} {lo i x d : ℕ} (list′ : List ℕ) (lo′ : ℕ) → NextLeaf list small lo i x → i ≤ x → d ≡ x - i
     → take (i - 1 + 1) (drop lo′ list′) ≡ ins (d + 1) i (take (i - 1) (drop lo list)) → getD list′ (lo′ + d) 0 < length small
 counted-inside {list} {small} {lo} {i} {x} {d} list′ lo′ T h q e =
     let top = T .top in
@@ -99,7 +99,7 @@ counted-inside {list} {small} {lo} {i} {x} {d} list′ lo′ T h q e =
     rw (counted-stays list list′ lo lo′ (i - 1) d i (omega arith) (omega arith) e) (rw (sym q) at (T .finds h))
 
 -- and has its smaller name
-pub put-behind : {list small list′ : List ℕ} {lo i x d lo′ : ℕ} → Turn list small lo i x → i ≤ x → d ≡ x - i → lo′ ≤ lo → lo ≤ lo′ + 1
+pub put-behind : {list small list′ : List ℕ} {lo i x d lo′ : ℕ} → NextLeaf list small lo i x → i ≤ x → d ≡ x - i → lo′ ≤ lo → lo ≤ lo′ + 1
     → take (i - 1 + 1) (drop lo′ list′) ≡ ins (d + 1) i (take (i - 1) (drop lo list)) → Put list small lo i x list′ (set small i (getD small (getD list′ (lo′ + d) 0) 0)) lo′
 unfolding place nameAt
 put-behind {list} {small} {list′} {lo} {i} {x} {d} {lo′} T h q u w e =
@@ -114,9 +114,9 @@ put-behind {list} {small} {list′} {lo} {i} {x} {d} {lo′} T h q u w e =
       smaller = rw (le-ltb x i h, sym q, same);
     }
 
-pub turn : {v list small : List ℕ} {lo i x : ℕ} → Built v list small lo i → i < length v → x ≡ getD v i 0 → Turn list small lo i x
+pub next-leaf : {v list small : List ℕ} {lo i x : ℕ} → Built v list small lo i → i < length v → x ≡ getD v i 0 → NextLeaf list small lo i x
 unfolding entry bound
-turn {v} {list} {small} {lo} {i} {x} B h ex =
+next-leaf {v} {list} {small} {lo} {i} {x} B h ex =
     let t = B .valid .bounded i h in
     let top : x ≤ 2 * (i - 1) = omega arith in
     let few = B .few in
@@ -137,7 +137,7 @@ turn {v} {list} {small} {lo} {i} {x} B h ex =
 pub built-next : {v list list′ small small′ : List ℕ} {lo lo′ i x : ℕ} → Built v list small lo i → i < length v → x ≡ getD v i 0 → length list′ ≡ length list → Put list small lo i x list′ small′ lo′ → Built v list′ small′ lo′ (i + 1)
 unfolding entry
 built-next {v} {list} {list′} {small} {small′} {lo} {lo′} {i} {x} B h ex ls p =
-    let T = turn B h ex in
+    let T = next-leaf B h ex in
     let P = pairsOf (entry v) i in
     let few = B .few in
     let top = T .top in

@@ -14,7 +14,7 @@ use borrow.Author.Tests.{ltb-false}
 use Rattle.rules.specs.Building.{Merge}
 use Rattle.merging.specs.Insertion.{put, insert, pairsOf}
 use Rattle.merging.specs.Greedy.{Under}
-use Rattle.merges.specs.Moved.{ins}
+use Rattle.insertion.specs.Moved.{ins}
 
 -- the merge of the larger name i
 abbrev pub held : List ℕ → ℕ → Merge

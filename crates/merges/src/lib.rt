@@ -1,70 +1,21 @@
+// The merges of a vector: their larger names in a list that grows at both ends, their smaller names by larger name.
+
 ghost use mathlib.Core.Path.{_≡_};
 ghost use mathlib.Core.List.{map};
-ghost use Prim.Native.Nat.{_+_, _-_, _<_, _≤_};
+ghost use Prim.Native.Nat.{_+_, _-_, _≤_};
 ghost use lib.ListN.{length, take, drop};
 ghost use Rattle.rules.specs.Vector.{Valid};
 ghost use Rattle.merging.specs.Insertion.{pairs};
-ghost use Rattle.merges.specs.Moved.{ins, moved};
 ghost use Rattle.merges.specs.Held.{held};
-ghost use Rattle.merges.specs.Built.{Turn, Put};
+ghost use Rattle.merges.specs.Built.{NextLeaf, Put};
 use numbers::wide;
-
-// The names behind e, as far as `at`, move down over the name at e, and w follows them.
-fn move_down(list: &mut [u16], e: usize, at: usize, w: u16)
-    requires { ⌜ (e ≤ at) × (at < length (now list)) ⌝ }
-    ensures { λ r. ⌜ now (list .exit) ≡ moved e at w (now (list .entry)) ⌝ }
-{
-    let mut k = e;
-    while k != at {
-        list[k] = list[k + 1];
-        k += 1;
-    }
-    list[at] = w;
-}
-
-// The names from `at` on, as far as e, move up over the name at e, and w stands before them.
-fn move_up(list: &mut [u16], e: usize, at: usize, w: u16)
-    requires { ⌜ (at ≤ e) × (e < length (now list)) ⌝ }
-    ensures { λ r. ⌜ now (list .exit) ≡ moved e at w (now (list .entry)) ⌝ }
-{
-    let mut k = e;
-    while k != at {
-        list[k] = list[k - 1];
-        k -= 1;
-    }
-    list[at] = w;
-}
-
-// A count of sixteens that is enough for k: a loop of whole blocks has no rest to move one by one.
-fn blocks(k: usize) -> usize
-    requires { ⌜ k ≤ 1024 ⌝ }
-    ensures { λ r. ⌜ (k ≤ r) × (r ≤ k + 15) ⌝ }
-{
-    (k + 15) / 16 * 16
-}
-
-// Puts w before number s of the m names that start at lo, by moving the shorter side and some of what lies beyond it. The
-// result is where the names start then.
-fn insert(list: &mut [u16], lo: usize, m: usize, s: usize, w: u16) -> usize
-    requires { ⌜ (16 ≤ lo) × (s ≤ m) × (m ≤ 1024) × (lo + m + 16 ≤ length (now list)) ⌝ }
-    ensures { λ r. ⌜ (r ≤ lo) × (lo ≤ r + 1) × (take (m + 1) (drop r (now (list .exit))) ≡ ins s w (take m (drop lo (now (list .entry))))) ⌝ }
-{
-    if s < m - s {
-        let at = lo - 1 + s;
-        move_down(list, at - blocks(s), at, w);
-        return lo - 1;
-    }
-    let at = lo + s;
-    move_up(list, at + blocks(m - s), at, w);
-    lo
-}
 
 // Puts leaf i's merge, where its entry is x, among the i-1 merges before: its smaller name into small, its larger name into the
 // list that starts at lo. The result is where the list starts then. An entry that names a leaf moves nothing, and so do half of
 // all entries of a random tree: that case comes first. The difference is taken in 16 bits, so that the compiler does not carry
 // four sums of it from leaf to leaf. Both cases store the smaller name last, which becomes one store for both.
 fn put(list: &mut [u16], small: &mut [u16], lo: usize, i: usize, x: u16) -> usize
-    requires { ⌜ Turn (now list) (now small) lo i x ⌝ }
+    requires { ⌜ NextLeaf (now list) (now small) lo i x ⌝ }
     ensures { λ r. ⌜ Put (now (list .entry)) (now (small .entry)) lo i x (now (list .exit)) (now (small .exit)) r ⌝ }
 {
     if wide(x) < i {
@@ -74,7 +25,7 @@ fn put(list: &mut [u16], small: &mut [u16], lo: usize, i: usize, x: u16) -> usiz
         return front;
     }
     let d = wide(x - i as u16);
-    let start = insert(list, lo, i - 1, d + 1, i as u16);
+    let start = insertion::insert(list, lo, i - 1, d + 1, i as u16);
     small[i] = small[wide(list[start + d])];
     start
 }

@@ -1,5 +1,5 @@
 -- The vector of a tree from its chains.
--- Main definitions: Drawn, given, Filled. Main results: planned, vector-is, filled-start, filled-next, filled-end.
+-- Main definitions: madeFrom, Filled. Main results: planned, vector-is, filled-start, filled-next, filled-end.
 use mathlib.Core.Path.{_≡_, refl, sym, ap, ap₂, _∙_, subst}
 use mathlib.Core.Bool.{true}
 use mathlib.Core.List.{List, _++_}
@@ -15,25 +15,15 @@ use Rattle.rows.specs.Larger.{Pair, pair-has, pair-of}
 use Rattle.clades.specs.Size.{size-below}
 use Rattle.rows.specs.Chains.{chain, falling, mergesOf, Smaller, In, Apart, Bounded, chain-starts, chain-none, falling-in, in-falling}
 use Rattle.rows.specs.Falls.{order-falls, falling-apart}
-use Rattle.order.specs.Walk.{cell, Held}
-use Rattle.order.specs.Chain.{chain-short, falling-high, smaller-less}
-use Rattle.order.specs.Entered.{Given, Planned, Holding, entered-start, entered-end}
-use Rattle.order.specs.Keyed.{Keyed}
-
--- the arrays of a tree whose leaves are 0 to n-1: the smaller name of each pair by its larger name, and the chains
-pub record Drawn (n : ℕ) (t : Tree) (small next last : List ℕ) : Type 0 where
-  pub below : LeavesBelow n t
-  pub smaller : Smaller (cell small) t
-  pub held : (k : ℕ) → k < n → Held (cell next) (cell last) k (chain 1024 t k)
-  pub some-leaf : 1 ≤ n
-  pub few : n ≤ 1024
-  pub small-room : n ≤ length small
-  pub next-room : n ≤ length next
-  pub last-room : n ≤ length last
+use Rattle.chains.specs.Walk.{cell, ChainIs}
+use Rattle.chains.specs.Drawn.{Drawn}
+use Rattle.chains.specs.Chain.{chain-short, falling-high, smaller-less}
+use Rattle.entries.specs.Entered.{MadeFrom, Planned, Holding, entered-start, entered-end}
+use Rattle.entries.specs.Keyed.{Keyed}
 
 -- what the vector of a tree is made from
-abbrev pub given : ℕ → List ℕ → Tree → List ℕ → Given
-given n small t old = record { leaves = n; small = small; chains = chain 1024 t; old = old }
+abbrev pub madeFrom : ℕ → List ℕ → Tree → List ℕ → MadeFrom
+madeFrom n small t old = record { leaves = n; small = small; chains = chain 1024 t; old = old }
 
 module _ {n : ℕ} {t : Tree} {small next last : List ℕ} (D : Drawn n t small next last) where
   inside : (x : ℕ) → has t x ≡ true → x < n
@@ -52,7 +42,7 @@ module _ {n : ℕ} {t : Tree} {small next last : List ℕ} (D : Drawn n t small 
       let z = least-le t 0 (D .below .all 0 ∙ lt-ltb 0 n (omega arith)) in
       pair-of t x (D .below .all x ∙ lt-ltb x n b) (omega arith)
 
-  pub planned : (old : List ℕ) → n ≤ length old → Planned (given n small t old)
+  pub planned : (old : List ℕ) → n ≤ length old → Planned (madeFrom n small t old)
   planned old h = record {
     some-leaf = D .some-leaf;
     few = D .few;
@@ -65,8 +55,8 @@ module _ {n : ℕ} {t : Tree} {small next last : List ℕ} (D : Drawn n t small 
     every = λ x a b. subst (In x) all-keys (falling-in 1024 t x bounded (pair-there x a b));
   }
 
-  pub holding : (old : List ℕ) → Holding (given n small t old) next last
-  holding old = record { held = D .held; next-there = D .next-room; last-there = D .last-room }
+  pub holding : (old : List ℕ) → Holding (madeFrom n small t old) next last
+  holding old = record { chained = D .chained; next-there = D .next-room; last-there = D .last-room }
 
   -- the entries of the merges in their order are the tree's vector
   pub vector-is : (old : List ℕ) → listed n (entryAt (mergesOf (cell small) (falling (chain 1024 t) n))) ++ drop n old ≡ vectorOf t ++ drop n old
@@ -80,7 +70,7 @@ module _ {n : ℕ} {t : Tree} {small next last : List ℕ} (D : Drawn n t small 
 pub record Filled (n : ℕ) (small next last out₀ blocks names out : List ℕ) (keys k : ℕ) : Type 0 where
   pub low : 1 ≤ k
   pub of-out : length out ≡ length out₀
-  pub each : (t : Tree) → Drawn n t small next last → Keyed (given n small t out₀) small next last k keys blocks names out
+  pub each : (t : Tree) → Drawn n t small next last → Keyed (madeFrom n small t out₀) small next last k keys blocks names out
 
 pub filled-start : {n : ℕ} {small next last out : List ℕ} → 1 ≤ n → n ≤ length out → Filled n small next last out (replicate 16 0) (replicate 1024 0) out 0 n
 filled-start {out = out} h l = record { low = h; of-out = refl; each = λ t D. record { entered = entered-start (planned D out l); holding = holding D out; smalls = refl } }
@@ -90,20 +80,20 @@ module _ {n : ℕ} {small next last out₀ blocks names out : List ℕ} {keys k 
   filled-long D = let R = F .each (D .0) (D .1) .entered .ranked in (R .blocks-long, R .names-long)
 
   -- the next key
-  each-key : 1 < k → (t : Tree) → Drawn n t small next last → Keyed (given n small t out₀) small next last (k - 1 + 1) keys blocks names out
+  each-key : 1 < k → (t : Tree) → Drawn n t small next last → Keyed (madeFrom n small t out₀) small next last (k - 1 + 1) keys blocks names out
   each-key h t D =
       let e : k - 1 + 1 ≡ k = omega arith in
       rw e (F .each t D)
 
-  pub some-key : 1 < k → (t : Tree) × Drawn n t small next last → (g : Given) × Keyed g small next last (k - 1 + 1) keys blocks names out
-  some-key h D = (given n small (D .0) out₀, each-key h (D .0) (D .1))
+  pub some-key : 1 < k → (t : Tree) × Drawn n t small next last → (g : MadeFrom) × Keyed g small next last (k - 1 + 1) keys blocks names out
+  some-key h D = (madeFrom n small (D .0) out₀, each-key h (D .0) (D .1))
 
   pub filled-next : {keys′ : ℕ} {blocks′ names′ out′ : List ℕ} → 1 < k
-      → ((g : Given) → Keyed g small next last (k - 1 + 1) keys blocks names out → Keyed g small next last (k - 1) keys′ blocks′ names′ out′) → length out′ ≡ length out
+      → ((g : MadeFrom) → Keyed g small next last (k - 1 + 1) keys blocks names out → Keyed g small next last (k - 1) keys′ blocks′ names′ out′) → length out′ ≡ length out
       → Filled n small next last out₀ blocks′ names′ out′ keys′ (k - 1)
-  filled-next h f l = record { low = omega arith; of-out = l ∙ F .of-out; each = λ t D. f (given n small t out₀) (each-key h t D) }
+  filled-next h f l = record { low = omega arith; of-out = l ∙ F .of-out; each = λ t D. f (madeFrom n small t out₀) (each-key h t D) }
 
   pub filled-end : k ≤ 1 → (t : Tree) → Drawn n t small next last → set out 0 0 ≡ vectorOf t ++ drop n out₀
   filled-end h t D =
       let e : k ≡ 1 = omega (arith, F .low) in
-      entered-end (subst (λ (x : ℕ). Keyed (given n small t out₀) small next last x keys blocks names out) e (F .each t D) .entered) ∙ vector-is D out₀
+      entered-end (subst (λ (x : ℕ). Keyed (madeFrom n small t out₀) small next last x keys blocks names out) e (F .each t D) .entered) ∙ vector-is D out₀

@@ -11,7 +11,7 @@ use lib.Dec.{eqb, ltb}
 use lib.ListN.{length, getD, replicate, length-replicate, getD-replicate}
 use borrow.Author.Tests.{eqb-true, eqb-false, ltb-true, ltb-false, lt-ltb, le-ltb}
 use Rattle.rows.specs.Count.{bit, count, count-none, count-or}
-use Rattle.ranks.specs.Steps.{Added}
+use Rattle.steps.specs.Steps.{Added}
 
 -- blocks has how many members are below each block, names how many of its block are below each name
 pub record Ranks (f : ℕ → Bool) (blocks names : List ℕ) : Type 0 where

@@ -17,10 +17,11 @@ use Rattle.rules.specs.Table.{Row, rowsOf, namedTwice, rowFault, tableFault}
 use Rattle.basics.specs.Bools.{or-cases}
 use Rattle.clades.specs.Leaves.{least-has}
 use Rattle.rows.specs.Forest.{RowOk, namedIn, namedAlso, named-snoc, fault-append, fault-step}
-use Rattle.order.specs.Walk.{cell}
-use Rattle.order.specs.Built.{taken, nodes, Built, Adds}
-use Rattle.reading.specs.RowAt.{rowAt, rows-count, rows-drop, rows-take}
-use Rattle.reading.specs.Verdict.{verdict, verdict-fault, placed, named-verdict, placed-row, in-place}
+use Rattle.chains.specs.Walk.{cell}
+use Rattle.chains.specs.Built.{taken, nodes, Built, Adds}
+use Rattle.rows.specs.RowAt.{rowAt, rows-count, rows-drop, rows-take}
+use Rattle.row_checks.specs.Mark.{mark}
+use Rattle.row_checks.specs.Verdict.{verdict, verdict-fault, placed, named-verdict, placed-row, in-place}
 
 -- t rows are read: accepted, added to the arrays, their children marked
 pub record Reads (n : ℕ) (xs : List ℕ) (t : ℕ) (names lows small next last : List ℕ) : Type 0 where
@@ -28,17 +29,9 @@ pub record Reads (n : ℕ) (xs : List ℕ) (t : ℕ) (names lows small next last
   pub few : n ≤ 1024
   pub count : length xs ≡ 3 * (n - 1)
   pub so-far : t ≤ n - 1
-  pub marked : (c : ℕ) → taken (take t (rowsOf xs)) c ≡ true → cell names c ≡ 65535
+  pub marked : (c : ℕ) → taken (take t (rowsOf xs)) c ≡ true → cell names c ≡ mark
   pub clean : rowFault n 0 (λ c. false) (take t (rowsOf xs)) ≡ none
   pub built : Built n (take t (rowsOf xs)) names lows small next last
-
--- the lists keep their lengths
-pub record Lengths (names₀ lows₀ small₀ next₀ last₀ names lows small next last : List ℕ) : Type 0 where
-  pub of-names : length names ≡ length names₀
-  pub of-lows : length lows ≡ length lows₀
-  pub of-small : length small ≡ length small₀
-  pub of-next : length next ≡ length next₀
-  pub of-last : length last ≡ length last₀
 
 -- no row is read yet
 pub reads-start : {n : ℕ} {xs names lows small next last : List ℕ} → 1 ≤ n → n ≤ 1024 → length xs ≡ 3 * (n - 1) → Built n [] names lows small next last
@@ -91,7 +84,7 @@ module _ {n : ℕ} {xs : List ℕ} {t l r p : ℕ} {names lows small next last :
   reads-inside = let a = there in omega (arith, R .built .names-room, A .inside)
 
   -- a name that stands is that of a node not taken
-  free : (c : ℕ) → cell names c < 65535 → taken before c ≡ false
+  free : (c : ℕ) → cell names c < mark → taken before c ≡ false
   free c h = go (taken before c) refl
     where
       go : (b : Bool) → taken before c ≡ b → b ≡ false
@@ -106,34 +99,34 @@ module _ {n : ℕ} {xs : List ℕ} {t l r p : ℕ} {names lows small next last :
       omega (arith, B .free c k e .name, B .forest .below c (least (nodes before c)) k (least-has (nodes before c)), R .few)
 
   -- and a node that is taken the mark
-  high : (c : ℕ) → c < n + t → cell names c ≤ 65535
+  high : (c : ℕ) → c < n + t → cell names c ≤ mark
   high c h = go (taken before c) refl
     where
-      go : (b : Bool) → taken before c ≡ b → cell names c ≤ 65535
+      go : (b : Bool) → taken before c ≡ b → cell names c ≤ mark
       go true e = omega (arith, R .marked c e)
       go false e = omega (arith, low c h e)
 
   -- x and y are what names has of its children; the first is marked before the second is looked up
-  module _ {x y : ℕ} {names₁ names₂ : List ℕ} (ex : x ≡ cell names l) (e₁ : names₁ ≡ set names l 65535) (ey : y ≡ cell names₁ r) (e₂ : names₂ ≡ set names₁ r 65535) where
-    both : names₂ ≡ set (set names l 65535) r 65535
-    both = e₂ ∙ ap (λ (ys : List ℕ). set ys r 65535) e₁
+  module _ {x y : ℕ} {names₁ names₂ : List ℕ} (ex : x ≡ cell names l) (e₁ : names₁ ≡ set names l mark) (ey : y ≡ cell names₁ r) (e₂ : names₂ ≡ set names₁ r mark) where
+    both : names₂ ≡ set (set names l mark) r mark
+    both = e₂ ∙ ap (λ (ys : List ℕ). set ys r mark) e₁
 
-    looked : y ≡ cell (set names l 65535) r
+    looked : y ≡ cell (set names l mark) r
     looked = ey ∙ ap (λ (ys : List ℕ). cell ys r) e₁
 
-    pub reads-few : x + y ≤ 131070
+    pub reads-few : x + y ≤ mark + mark
     reads-few = go (eqb l r) refl
       where
-        go : (b : Bool) → eqb l r ≡ b → x + y ≤ 131070
+        go : (b : Bool) → eqb l r ≡ b → x + y ≤ mark + mark
         go true q =
-            let e : y ≡ 65535 = looked ∙ ap (cell (set names l 65535)) (sym (eqb-true l r q)) ∙ getD-set-same names l 65535 0 (reads-inside .0) in
+            let e : y ≡ mark = looked ∙ ap (cell (set names l mark)) (sym (eqb-true l r q)) ∙ getD-set-same names l mark 0 (reads-inside .0) in
             omega (arith, high l (there .1))
         go false q =
-            let e : y ≡ cell names r = looked ∙ getD-set-other names l r 65535 0 (λ z. eqb-false l r q (sym z)) in
+            let e : y ≡ cell names r = looked ∙ getD-set-other names l r mark 0 (λ z. eqb-false l r q (sym z)) in
             omega (arith, high l (there .1), high r (there .2))
 
     -- a mark: a child is named before, or twice
-    pub reads-named : 65535 ≤ x + y → 7 ≡ verdict (taken before) (n + t) (l, r, p)
+    pub reads-named : mark ≤ x + y → 7 ≡ verdict (taken before) (n + t) (l, r, p)
     unfolding namedTwice
     reads-named h = named-verdict (taken before) (n + t) (l, r, p) (in-place (n + t) (l, r, p) v) (go (taken before l) refl (taken before r) refl (eqb l r) refl)
       where
@@ -142,18 +135,18 @@ module _ {n : ℕ} {xs : List ℕ} {t l r p : ℕ} {names lows small next last :
         go false q true s c w = rw (q, s)
         go false q false s true w = rw (q, s, w)
         go false q false s false w =
-            let e : y ≡ cell names r = looked ∙ getD-set-other names l r 65535 0 (λ z. eqb-false l r w (sym z)) in
+            let e : y ≡ cell names r = looked ∙ getD-set-other names l r mark 0 (λ z. eqb-false l r w (sym z)) in
             absurd (omega (arith, low l (there .1) q, low r (there .2) s))
 
     -- no mark
-    module _ (h : x + y < 65535) where
+    module _ (h : x + y < mark) where
       differ : l ≢ r
       differ e =
-          let z : y ≡ 65535 = looked ∙ ap (cell (set names l 65535)) (sym e) ∙ getD-set-same names l 65535 0 (reads-inside .0) in
+          let z : y ≡ mark = looked ∙ ap (cell (set names l mark)) (sym e) ∙ getD-set-same names l mark 0 (reads-inside .0) in
           omega arith
 
       second : y ≡ cell names r
-      second = looked ∙ getD-set-other names l r 65535 0 (λ e. differ (sym e))
+      second = looked ∙ getD-set-other names l r mark 0 (λ e. differ (sym e))
 
       row-fits : RowOk n t (taken before) (l, r, n + t)
       row-fits = record {
@@ -171,8 +164,8 @@ module _ {n : ℕ} {xs : List ℕ} {t l r p : ℕ} {names lows small next last :
         reads-adds = record {
           before = names;
           built = R .built;
-          others = λ k a b. ap (λ (ys : List ℕ). cell ys k) both ∙ getD-set-other (set names l 65535) r k 65535 0 b ∙ getD-set-other names l k 65535 0 a;
-          same = ap length both ∙ length-set (set names l 65535) r 65535 ∙ length-set names l 65535;
+          others = λ k a b. ap (λ (ys : List ℕ). cell ys k) both ∙ getD-set-other (set names l mark) r k mark 0 b ∙ getD-set-other names l k mark 0 a;
+          same = ap length both ∙ length-set (set names l mark) r mark ∙ length-set names l mark;
           smaller-name = ap (λ (j : ℕ). x + y - j) ei ∙ other-name x y ∙ ap₂ min ex second;
           larger-name = ei ∙ ap₂ max ex second;
           count = ap (λ (j : ℕ). n + j) (sym long);
@@ -206,25 +199,25 @@ module _ {n : ℕ} {xs : List ℕ} {t l r p : ℕ} {names lows small next last :
             also : (c : ℕ) → taken (before ++ ((l, r, n + t) ∷ [])) c ≡ true → (taken before c || eqb c l) || eqb c r ≡ true
             also c q = unfold namedAlso in sym (ap (λ (g : ℕ → Bool). g c) (named-snoc (λ c. false) before (l, r, n + t))) ∙ q
 
-            other : (c : ℕ) → c < n + t → cell names′ c ≡ cell (set (set names l 65535) r 65535) c
+            other : (c : ℕ) → c < n + t → cell names′ c ≡ cell (set (set names l mark) r mark) c
             other c k = ap (λ (ys : List ℕ). cell ys c) e ∙ getD-set-other names₂ (n + t) c (x + y - i) 0 (omega arith) ∙ ap (λ (ys : List ℕ). cell ys c) both
 
-            is-second : (c : ℕ) → eqb c r ≡ true → cell names′ c ≡ 65535
-            is-second c q = rw (eqb-true c r q) (other r (there .2) ∙ getD-set-same (set names l 65535) r 65535 0 (let i = reads-inside in omega (arith, length-set names l 65535)))
+            is-second : (c : ℕ) → eqb c r ≡ true → cell names′ c ≡ mark
+            is-second c q = rw (eqb-true c r q) (other r (there .2) ∙ getD-set-same (set names l mark) r mark 0 (let i = reads-inside in omega (arith, length-set names l mark)))
 
-            is-first : (c : ℕ) → eqb c l ≡ true → cell names′ c ≡ 65535
+            is-first : (c : ℕ) → eqb c l ≡ true → cell names′ c ≡ mark
             is-first c q =
                 rw (eqb-true c l q)
-                (other l (there .1) ∙ getD-set-other (set names l 65535) r l 65535 0 differ ∙ getD-set-same names l 65535 0 (reads-inside .0))
+                (other l (there .1) ∙ getD-set-other (set names l mark) r l mark 0 differ ∙ getD-set-same names l mark 0 (reads-inside .0))
 
-            is-old : (c : ℕ) → taken before c ≡ true → (a : Bool) → eqb c l ≡ a → (b : Bool) → eqb c r ≡ b → cell names′ c ≡ 65535
+            is-old : (c : ℕ) → taken before c ≡ true → (a : Bool) → eqb c l ≡ a → (b : Bool) → eqb c r ≡ b → cell names′ c ≡ mark
             is-old c q true u b w = is-first c u
             is-old c q false u true w = is-second c w
             is-old c q false u false w =
                 other c (omega (arith, R .built .forest .early c q, long))
-                ∙ getD-set-other (set names l 65535) r c 65535 0 (eqb-false c r w) ∙ getD-set-other names l c 65535 0 (eqb-false c l u) ∙ R .marked c q
+                ∙ getD-set-other (set names l mark) r c mark 0 (eqb-false c r w) ∙ getD-set-other names l c mark 0 (eqb-false c l u) ∙ R .marked c q
 
-            marks : (c : ℕ) → (taken before c || eqb c l) || eqb c r ≡ true → cell names′ c ≡ 65535
+            marks : (c : ℕ) → (taken before c || eqb c l) || eqb c r ≡ true → cell names′ c ≡ mark
             marks c q = ⊎-elim (λ a. ⊎-elim (λ b. is-old c b (eqb c l) refl (eqb c r) refl) (is-first c) (or-cases (taken before c) (eqb c l) a)) (is-second c)
                 (or-cases (taken before c || eqb c l) (eqb c r) q)
 

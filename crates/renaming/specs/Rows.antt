@@ -23,7 +23,7 @@ use Rattle.shuffle_laws.specs.Taken.{new-no-fault}
 use Rattle.table_laws.specs.Rows.{first, second, rows-length, parent-at}
 use Rattle.table_laws.specs.Accepted.{pairs-accepted}
 use Rattle.table_laws.specs.Grown.{pairs-tree}
-use Rattle.reading.specs.Children.{Children}
+use Rattle.children_order.specs.Children.{Children}
 use Rattle.shuffle.specs.Held.{heldRows, heldTree, Tabled, held-is, held-renamed, getD-held, length-held}
 use Rattle.shuffle.specs.Renames.{renamedTo, renamed-at}
 

@@ -19,7 +19,7 @@ fn rename_rows(v: &[u16], p: &[u16], left: &mut [u16], right: &mut [u16], vector
     let n = v.len();
     shuffle::rename(n, p, left, n - 1);
     shuffle::rename(n, p, right, n - 1);
-    reading::children_vector(n, left, right, vector);
+    children_order::children_vector(n, left, right, vector);
 }
 
 // The vector of v's tree with leaf x renamed p(x), at the front of vector.
@@ -30,7 +30,7 @@ pub fn renamed_vector(v: &[u16], p: &[u16], vector: &mut [u16])
 {
     let mut left = [0u16; 1024];
     let mut right = [0u16; 1024];
-    table::rows_of(v, &mut left, &mut right);
+    vector_rows::rows_of(v, &mut left, &mut right);
     let mut entries = [0u16; 1024];
     rename_rows(v, p, &mut left, &mut right, &mut entries);
     lists::copy_numbers(&entries, v.len(), vector);
@@ -45,7 +45,7 @@ pub fn shuffled(v: &[u16], new: &mut [u16], vector: &mut [u16])
     let n = v.len();
     let mut left = [0u16; 1024];
     let mut right = [0u16; 1024];
-    table::rows_of(v, &mut left, &mut right);
+    vector_rows::rows_of(v, &mut left, &mut right);
     let mut nodes = [0u16; 1024];
     let mut labels = [0u16; 1024];
     let mut new_labels = [0u16; 1024];

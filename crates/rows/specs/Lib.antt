@@ -5,3 +5,4 @@ pub mod Collapse
 pub mod Count
 pub mod Forest
 pub mod Clades
+pub mod RowAt

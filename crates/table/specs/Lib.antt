@@ -1,3 +1,1 @@
-pub mod Numbered
-pub mod Children
 pub mod Written

@@ -10,7 +10,7 @@ use Rattle.rules.specs.Order.{vectorOf}
 use Rattle.rules.specs.Table.{rowsOf, tableFault, tableTree}
 use Rattle.rows.specs.Forest.{rows-make-a-tree}
 use Rattle.laws.specs.OneToOne.{every-tree}
-use Rattle.reading.specs.RowAt.{rows-count}
+use Rattle.rows.specs.RowAt.{rows-count}
 
 -- the vector of accepted rows has an entry for each leaf
 pub vector-count : (n : ℕ) (xs : List ℕ) → 1 ≤ n → length xs ≡ 3 * (n - 1) → tableFault n (rowsOf xs) ≡ none → length (vectorOf (tableTree n (rowsOf xs))) ≡ n

@@ -1,7 +1,7 @@
 // The public calls between a vector and a merge table.
 use answering::hand_out;
 use answering::refuse;
-use reading::Found;
+use row_checks::Found;
 use rules::Answer;
 use rules::Kind;
 use vector_calls::check;
@@ -41,7 +41,7 @@ pub fn from_table(leaves: usize, rows: &[u16], out: &mut [u16]) -> Answer
         return refuse(Kind::InputLength, wanted);
     }
     let mut vector = [0u16; 1024];
-    match reading::table_vector(leaves, rows, &mut vector) {
+    match table_order::table_vector(leaves, rows, &mut vector) {
         Found::Parent(t) => refuse(Kind::Parent, t),
         Found::Child(t) => refuse(Kind::Child, t),
         Found::NamedBefore(t) => refuse(Kind::NamedBefore, t),

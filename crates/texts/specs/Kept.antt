@@ -9,7 +9,7 @@ use Rattle.rules.specs.Tree.{Tree}
 use Rattle.rules.specs.Table.{Row, tableTree}
 use Rattle.rules.specs.Order.{vectorOf}
 use Rattle.table_laws.specs.Tied.{tied-at}
-use Rattle.reading.specs.Children.{Children}
+use Rattle.children_order.specs.Children.{Children}
 use Rattle.newick.specs.Numbered.{firstNumber, secondNumber}
 use Rattle.newick.specs.Recorded.{TableOf, recordedRows}
 

@@ -10,7 +10,7 @@ use borrow.Author.Count.{below-more}
 use Rattle.rules.specs.Table.{Row, rowsFrom}
 use Rattle.merging.specs.Insertion.{pairs}
 use Rattle.merges.specs.Held.{held}
-use Rattle.table.specs.Numbered.{heldRows, Held, Numbered, turn, numbered-start, numbered-next, row-at, rows-of-pairs}
+use Rattle.numbering.specs.Numbered.{heldRows, BeforeRows, Numbered, next-merge, numbered-start, numbered-next, row-at, rows-of-pairs}
 use Rattle.text_writer.specs.Output.{LeafWords}
 
 -- a row's two children in one word
@@ -30,7 +30,7 @@ pub record Pairing (list small : List ℕ) (start n : ℕ) (number₀ number wor
   pub numbered : Numbered list small start n number₀ number t
   pub paired : PairedTo n (heldRows list small start n) words t
 
-pub pairing-start : {list small : List ℕ} {start n : ℕ} {number words : List ℕ} → Held list small start n number → LeafWords n words → Pairing list small start n number number words 0
+pub pairing-start : {list small : List ℕ} {start n : ℕ} {number words : List ℕ} → BeforeRows list small start n number → LeafWords n words → Pairing list small start n number number words 0
 pairing-start H L = record { numbered = numbered-start H; paired = record { leaf-words = L; pair-words = λ j h. absurd (omega arith) } }
 
 module _ {list small : List ℕ} {start n : ℕ} {number₀ number words : List ℕ} {t : ℕ} (P : Pairing list small start n number₀ number words t) where
@@ -38,7 +38,7 @@ module _ {list small : List ℕ} {start n : ℕ} {number₀ number words : List 
   pub pairing-room : {a b : ℕ} → t < n - 1 → b ≡ getD list (start + t) 0 → a ≡ getD small b 0
       → (a < length number) × (b < length number) × (a < 1024) × (b < 1024) × (n + t < 2048) × (n + t < length words)
   pairing-room h eb ea =
-      let T = turn (P .numbered) h eb ea in
+      let T = next-merge (P .numbered) h eb ea in
       (T .a-in-number, T .b-in-number, omega (arith, T .name-a, T .few), omega (arith, T .name-b, T .few), omega (arith, T .few), omega (arith, T .few, P .paired .leaf-words .long))
 
   pub pairing-next : {a b w : ℕ} → t < n - 1 → b ≡ getD list (start + t) 0 → a ≡ getD small b 0 → w ≡ getD number a 0 + getD number b 0 * 65536

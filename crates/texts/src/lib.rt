@@ -11,7 +11,7 @@ ghost use Rattle.rules.specs.Order.{vectorOf};
 ghost use Rattle.rules.specs.Newick.{textOf};
 ghost use Rattle.grammar.specs.Length.{textLength};
 ghost use Rattle.newick.specs.Recorded.{TableOf, recordedRows};
-ghost use Rattle.table.specs.Numbered.{Held, heldRows};
+ghost use Rattle.numbering.specs.Numbered.{BeforeRows, heldRows};
 ghost use Rattle.texts.specs.Standing.{vectorRows};
 ghost use Rattle.texts.specs.Paired.{Paired};
 ghost use Rattle.text_writer.specs.Output.{LeafWords};
@@ -63,7 +63,7 @@ fn pair_words(
     number: &mut [u16],
     words: &mut [u32],
 )
-    requires { ⌜ Held (now list) (now small) start n (now number) × LeafWords n (now words) ⌝ }
+    requires { ⌜ BeforeRows (now list) (now small) start n (now number) × LeafWords n (now words) ⌝ }
     ensures { λ _. ⌜ Paired n (heldRows (now (list .entry)) (now (small .entry)) start n) (now (words .exit)) ⌝ }
 {
     let last = n - 1;
@@ -112,7 +112,7 @@ fn pairs_vector(m: &[u32], n: usize, vector: &mut [u16])
     let mut left = [0u16; 1024];
     let mut right = [0u16; 1024];
     newick::children(m, n, &mut left, &mut right);
-    reading::children_vector(n, &left, &right, vector);
+    children_order::children_vector(n, &left, &right, vector);
 }
 
 // Reads a text: its vector, at the front of vector, or why it gives none.

@@ -1,7 +1,7 @@
 -- `merges` meets its contract: the lists hold the merges of the first i entries.
 use mathlib.Core.Path.{refl}
 use Prim.Native.Nat.{_-_}
-use Rattle.merges.specs.Built.{Built, built-start, built-next, built-end, turn}
+use Rattle.merges.specs.Built.{Built, built-start, built-next, built-end, next-leaf}
 use native.Mathlib.Omega.{arith}
 use borrow.Author.Needs.{needs}
 use Rattle.merges.proofs.merges.Statement.{statement}
@@ -23,7 +23,7 @@ shared-slice-read-put : tie.Need-shared-slice-read-put Inv-loop μ-loop
 shared-slice-read-put c = search needs
 
 put-requires : tie.Need-put-requires Inv-loop μ-loop
-put-requires c κs = turn (c .before .before .before .before .loop .inv) (c .before .before .before .loop-test .taken) refl
+put-requires c κs = next-leaf (c .before .before .before .before .loop .inv) (c .before .before .before .loop-test .taken) refl
 
 add-i : tie.Need-add-i Inv-loop μ-loop
 add-i c = search needs

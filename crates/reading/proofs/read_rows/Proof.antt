@@ -1,7 +1,8 @@
 -- `read_rows` meets its contract: the first t rows are read, and none of them is refused.
 use mathlib.Core.Path.{_≡_, refl, sym, _∙_}
 use Prim.Native.Nat.{_-_}
-use Rattle.reading.specs.Reading.{Reads, Lengths, Row-at, reads-inside, reads-few, adds-some, reads-next, reads-end}
+use Rattle.chains.specs.Lengths.{Lengths, same-lengths}
+use Rattle.reading.specs.Reading.{Reads, Row-at, reads-inside, reads-few, adds-some, reads-next, reads-end}
 use Rattle.reading.specs.Told.{read-placed, read-named}
 use native.Mathlib.Omega.{arith}
 use borrow.Author.Needs.{needs}
@@ -31,7 +32,7 @@ sub-count : tie.Need-sub-count Inv-loop μ-loop
 sub-count c = search needs
 
 loop-holds : tie.Need-loop-holds Inv-loop μ-loop
-loop-holds c = (c .before .before .before .before .before .before .pre, record { of-names = refl; of-lows = refl; of-small = refl; of-next = refl; of-last = refl }, refl)
+loop-holds c = (c .before .before .before .before .before .before .pre, same-lengths, refl)
 
 add-p : tie.Need-add-p Inv-loop μ-loop
 add-p c = search needs
@@ -119,6 +120,9 @@ add-s c = let m = c .before .before .before .before .before .before .before .bef
     let y = c .before .before .take-name2 in
     let few = reads-few (m .before .before .before .before .before .before .before .before .loop .inv .0) (row m) placed (x .ensures .0) (x .ensures .1) (y .ensures .0) (y .ensures .1) in
     omega arith
+
+cast-if2 : tie.Need-cast-if2 Inv-loop μ-loop
+cast-if2 c = search needs
 
 same-length-6 : tie.Need-same-length-6 Inv-loop μ-loop
 same-length-6 c = search needs
@@ -237,6 +241,7 @@ read-rows-spec =
     take-name-requires
     take-name-requires-2
     add-s
+    cast-if2
     same-length-6
     same-length-7
     same-length-8

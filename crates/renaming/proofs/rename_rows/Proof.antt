@@ -5,7 +5,7 @@ use Rattle.renaming.proofs.rename_rows.Statement.{statement}
 use Rattle.renaming.proofs.rename_rows.Tie as tie
 use Rattle.renaming.proofs.rename_rows.Reads as reads
 use Rattle.renaming.proofs.rename_rows.Lts as lts
-use Rattle.reading.proofs.children_vector.Reads as children-vector-reads
+use Rattle.children_order.proofs.children_vector.Reads as children-vector-reads
 use Rattle.shuffle.proofs.rename.Reads as rename-reads
 
 sub-rename : tie.Need-sub-rename

@@ -2,7 +2,7 @@ use native.Mathlib.Omega.{arith}
 use borrow.Author.Needs.{needs}
 use mathlib.Core.Path.{refl, _∙_, sym}
 use Prim.Native.Nat.{_-_}
-use Rattle.table.specs.Numbered.{turn}
+use Rattle.numbering.specs.Numbered.{next-merge}
 use Rattle.texts.specs.Paired.{Pairing, pairing-start, pairing-room, pairing-next, pairing-end}
 use Rattle.texts.proofs.pair_words.Statement.{statement}
 use Rattle.texts.proofs.pair_words.Tie as tie
@@ -36,10 +36,10 @@ wide-requires : tie.Need-wide-requires Inv-loop μ-loop
 wide-requires c κs = search needs
 
 mul-wide-2 : tie.Need-mul-wide-2 Inv-loop μ-loop
-mul-wide-2 c = let T = turn (c .before .before .before .loop .inv .numbered) (c .before .before .loop-test .taken) (c .wide .ensures) refl in omega (arith, T .name-b, T .few)
+mul-wide-2 c = let T = next-merge (c .before .before .before .loop .inv .numbered) (c .before .before .loop-test .taken) (c .wide .ensures) refl in omega (arith, T .name-b, T .few)
 
 shared-slice-read-wide-2 : tie.Need-shared-slice-read-wide-2 Inv-loop μ-loop
-shared-slice-read-wide-2 c = turn (c .before .before .before .before .loop .inv .numbered) (c .before .before .before .loop-test .taken) (c .before .wide .ensures) refl .in-small
+shared-slice-read-wide-2 c = next-merge (c .before .before .before .before .loop .inv .numbered) (c .before .before .before .loop-test .taken) (c .before .wide .ensures) refl .in-small
 
 wide-requires-2 : tie.Need-wide-requires-2 Inv-loop μ-loop
 wide-requires-2 c κs = search needs

@@ -7,7 +7,7 @@ use Rattle.texts.proofs.pairs_vector.Tie as tie
 use Rattle.texts.proofs.pairs_vector.Reads as reads
 use Rattle.texts.proofs.pairs_vector.Lts as lts
 use Rattle.newick.proofs.children.Reads as children-reads
-use Rattle.reading.proofs.children_vector.Reads as children-vector-reads
+use Rattle.children_order.proofs.children_vector.Reads as children-vector-reads
 
 slice-aggregate-children : tie.Need-slice-aggregate-children
 slice-aggregate-children c = search needs

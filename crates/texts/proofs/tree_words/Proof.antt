@@ -1,5 +1,5 @@
 use borrow.Author.Needs.{needs}
-use Rattle.table.specs.Numbered.{held-of}
+use Rattle.numbering.specs.Numbered.{before-rows}
 use Rattle.texts.specs.Paired.{vector-paired}
 use Rattle.texts.proofs.tree_words.Statement.{statement}
 use Rattle.texts.proofs.tree_words.Tie as tie
@@ -40,7 +40,7 @@ slice-aggregate-pair-words-3 c = search needs
 pair-words-requires : tie.Need-pair-words-requires
 pair-words-requires c κs = let p = c .before .before .before .before .before .before .before .before .before .before .before .before .before .before .before .before .before .before .pre in
     let e = c .before .before .before .before .before .before .before .before .before .before .merges .ensures in
-    (held-of (p .0) (p .1) (e .0) (e .1) (search needs) (search needs) (search needs) (c .before .before .before .before .before .before .before .before .before .before .before .before .before .before .number-leaves .ensures), c .before .before .before .before .before .before .leaf-words .ensures)
+    (before-rows (p .0) (p .1) (e .0) (e .1) (search needs) (search needs) (search needs) (c .before .before .before .before .before .before .before .before .before .before .before .before .before .before .number-leaves .ensures), c .before .before .before .before .before .before .leaf-words .ensures)
 
 same-length : tie.Need-same-length
 same-length c = search needs

@@ -1,0 +1,6 @@
+pub mod Walk
+pub mod Chain
+pub mod Drawn
+pub mod Built
+pub mod Leaves
+pub mod Lengths

@@ -1,0 +1,3 @@
+pub mod Entries
+pub mod Entered
+pub mod Keyed
