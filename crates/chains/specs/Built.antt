@@ -14,9 +14,10 @@ use Rattle.rules.specs.Tree.{Tree, leaf, node, has, least, Distinct, Clusters}
 use Rattle.rules.specs.Table.{Row, nodesOf, tableTree}
 use Rattle.basics.specs.Bools.{or-false}
 use Rattle.clades.specs.Leaves.{has-left, has-right, has-cases, least-has, least-apart}
+use Rattle.table_laws.specs.Nodes.{noded}
 use Rattle.rows.specs.Larger.{Pair, lesser, top-has, pair-has, pair-above, top-left, top-right}
 use Rattle.rows.specs.Count.{last-or-before, count, count-pos, count-without}
-use Rattle.rows.specs.Forest.{namedAlso, namedIn, noded, RowOk, Forest, forest-start, forest-next, forest-end, named-snoc, nodes-snoc, named-no}
+use Rattle.rows.specs.Forest.{namedAlso, namedIn, RowOk, Forest, forest-start, forest-next, forest-end, named-snoc, nodes-snoc, named-no}
 use Rattle.rows.specs.Chains.{lowest, chain, Smaller, In, Bounded, in-left, chain-own, chain-other, chain-in, lowest-starts}
 use Rattle.chains.specs.Walk.{cell, ChainIs, last-cases, chain-kept, chain-more}
 use Rattle.chains.specs.Chain.{one-chain, smaller-cong, chain-of-left, chain-of-right}
@@ -346,7 +347,6 @@ module _ {n : ℕ} {rs : List Row} {p l r a i : ℕ} {names lows small next last
   forest′ = rw (long, named-snoc (λ c. false) rs row′, nodes-snoc leaf rs row′) (forest-next n (length rs) (taken rs) (nodes rs) row′ F R)
 
   free′ : (k : ℕ) → k < n + length rs′ → taken rs′ k ≡ false → Tells k (nodes rs′ k) names′ lows′ small′ next′ last′
-  unfolding noded
   free′ k h e = go (last-or-before p k (omega (arith, long, A .count)))
     where
       there : nodes rs′ k ≡ noded (nodes rs) row′ k

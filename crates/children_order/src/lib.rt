@@ -38,7 +38,7 @@ fn add_children(
     }
 }
 
-// The vector of the tree whose rows have these children, at the front of vector.
+/// The vector of the tree whose rows have these children, at the front of vector.
 pub fn children_vector(n: usize, left: &[u16], right: &[u16], vector: &mut [u16])
     requires { ⌜ (1 ≤ n) × (n ≤ 1024) × (n - 1 ≤ length (now left)) × (n - 1 ≤ length (now right)) × (n ≤ length (now vector)) ⌝ }
     requires { ⌜ ((rs : List Row) × Children n (now left) (now right) rs) ⌝ }

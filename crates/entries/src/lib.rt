@@ -33,7 +33,7 @@ fn follow(
     }
 }
 
-// The entries of the chain of key k, where there is one: no merge before that of the key is of names below it. How many keys there are now.
+/// The entries of the chain of key k, where there is one: no merge before that of the key is of names below it. How many keys there are now.
 pub fn enter_key(
     small: &[u16],
     next: &[u16],

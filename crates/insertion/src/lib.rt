@@ -39,8 +39,8 @@ fn blocks(k: usize) -> usize
     (k + 15) / 16 * 16
 }
 
-// Puts w before number s of the m names that start at lo, by moving the shorter side and some of what lies beyond it. The
-// result is where the names start then.
+/// Puts w before number s of the m names that start at lo, by moving the shorter side and some of what lies beyond it. The
+/// result is where the names start then.
 pub fn insert(list: &mut [u16], lo: usize, m: usize, s: usize, w: u16) -> usize
     requires { ⌜ (16 ≤ lo) × (s ≤ m) × (m ≤ 1024) × (lo + m + 16 ≤ length (now list)) ⌝ }
     ensures { λ r. ⌜ (r ≤ lo) × (lo ≤ r + 1) × (take (m + 1) (drop r (now (list .exit))) ≡ ins s w (take m (drop lo (now (list .entry))))) ⌝ }

@@ -13,21 +13,22 @@ use Rattle.rules.specs.Building.{Merge}
 use Rattle.merging.specs.Insertion.{pairsOf, pairs, pairs-count}
 use Rattle.merging.specs.Greedy.{Under, under-pairs}
 use Rattle.insertion.specs.Moved.{ins, ins-before}
+use Rattle.merges.specs.Room.{listRoom, listMiddle}
 use Rattle.merges.specs.Held.{held, place, nameAt, nameIn, pairs-next, larger-below, merge-at, same-name, held-next}
 
 -- list from lo on and small hold the merges of the first i entries
 pub record Built (v list small : List ℕ) (lo i : ℕ) : Type 0 where
   pub valid : Valid v
   pub few : length v ≤ 1024
-  pub size : length list ≡ 2080
+  pub size : length list ≡ listRoom
   pub size-small : length small ≡ 1024
   pub low : 1 ≤ i
   pub high : i ≤ length v
-  pub above : 1041 ≤ lo + i
-  pub below : lo ≤ 1040
+  pub above : listMiddle < lo + i
+  pub below : lo ≤ listMiddle
   pub listed : map (held small) (take (i - 1) (drop lo list)) ≡ pairsOf (entry v) i
 
-pub built-start : {v list small : List ℕ} → Valid v → length v ≤ 1024 → length list ≡ 2080 → length small ≡ 1024 → Built v list small 1040 1
+pub built-start : {v list small : List ℕ} → Valid v → length v ≤ 1024 → length list ≡ listRoom → length small ≡ 1024 → Built v list small listMiddle 1
 unfolding pairsOf
 built-start ok few size size-small = record {
   valid = ok;
@@ -163,7 +164,7 @@ built-next {v} {list} {list′} {small} {small′} {lo} {lo′} {i} {x} B h ex l
           (sym (pairs-next (entry v) i (B .low)));
     }
 
-pub built-end : {v list small : List ℕ} {lo i : ℕ} → Built v list small lo i → length v ≤ i → (lo + (length v - 1) ≤ 2080) × (map (held small) (take (length v - 1) (drop lo list)) ≡ pairs v)
+pub built-end : {v list small : List ℕ} {lo i : ℕ} → Built v list small lo i → length v ≤ i → (lo + (length v - 1) ≤ listRoom) × (map (held small) (take (length v - 1) (drop lo list)) ≡ pairs v)
 unfolding pairs
 built-end {v} {list} {small} {lo} {i} B h =
     let z : i ≡ length v = omega arith in

@@ -6,9 +6,16 @@ ghost use Prim.Native.Nat.{_+_, _-_, _≤_};
 ghost use lib.ListN.{length, take, drop};
 ghost use Rattle.rules.specs.Vector.{Valid};
 ghost use Rattle.merging.specs.Insertion.{pairs};
+ghost use Rattle.merges.specs.Room.{listRoom};
 ghost use Rattle.merges.specs.Held.{held};
 ghost use Rattle.merges.specs.Built.{NextLeaf, Put};
 use numbers::wide;
+
+/// The length of the list of larger names.
+pub const ROOM: usize = 2080;
+
+// Where the list starts before the first merge.
+const MIDDLE: usize = 1040;
 
 // Puts leaf i's merge, where its entry is x, among the i-1 merges before: its smaller name into small, its larger name into the
 // list that starts at lo. The result is where the list starts then. An entry that names a leaf moves nothing, and so do half of
@@ -30,15 +37,15 @@ fn put(list: &mut [u16], small: &mut [u16], lo: usize, i: usize, x: u16) -> usiz
     start
 }
 
-// Writes the merges of v: their larger names into list, which grows at both ends from its middle, and for each of them the
-// smaller name into small. The result is where the list starts.
+/// Writes the merges of v: their larger names into list, which grows at both ends from its middle, and for each of them the
+/// smaller name into small. The result is where the list starts.
 pub fn merges(v: &[u16], list: &mut [u16], small: &mut [u16]) -> usize
-    requires { ⌜ Valid (now v) × (length (now v) ≤ 1024) × (length (now list) ≡ 2080) × (length (now small) ≡ 1024) ⌝ }
-    ensures { λ r. ⌜ (r + (length (now (v .entry)) - 1) ≤ 2080)
+    requires { ⌜ Valid (now v) × (length (now v) ≤ 1024) × (length (now list) ≡ listRoom) × (length (now small) ≡ 1024) ⌝ }
+    ensures { λ r. ⌜ (r + (length (now (v .entry)) - 1) ≤ listRoom)
         × (map (held (now (small .exit))) (take (length (now (v .entry)) - 1) (drop r (now (list .exit)))) ≡ pairs (now (v .entry))) ⌝ }
 {
     let n = v.len();
-    let mut lo: usize = 1040;
+    let mut lo: usize = MIDDLE;
     let mut i: usize = 1;
     while i < n {
         lo = put(list, small, lo, i, v[i]);

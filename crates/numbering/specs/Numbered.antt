@@ -16,8 +16,9 @@ use Rattle.rules.specs.Table.{Row, rowsFrom}
 use Rattle.merging.specs.Insertion.{pairsOf, pairs, valid-bounded}
 use Rattle.merging.specs.Greedy.{under-pairs}
 use Rattle.merging.specs.Named.{rising}
+use Rattle.merges.specs.Room.{listRoom}
 use Rattle.merges.specs.Held.{held, merge-at}
-use Rattle.table_laws.specs.Rows.{Inside, inside, inside-drop, inside-at, rows-length, rows-cong}
+use Rattle.table_laws.specs.Rows.{vectorRows, Inside, inside, inside-drop, inside-at, rows-length, rows-cong}
 
 -- the merges that the two lists hold
 unfoldable pub heldMerges : List ℕ → List ℕ → ℕ → ℕ → List Merge
@@ -148,8 +149,8 @@ unfolding pairs
 pairs-inside v ok =
     inside (length v) (pairsOf (entry v) (length v)) (under-pairs (entry v) (length v)) (rising (entry v) (length v) (valid-bounded v ok))
 
-pub before-rows : {v list small : List ℕ} {start : ℕ} {number : List ℕ} → Valid v → length v ≤ 1024 → start + (length v - 1) ≤ 2080
-    → map (held small) (take (length v - 1) (drop start list)) ≡ pairs v → length list ≡ 2080 → length small ≡ 1024 → length number ≡ 1024
+pub before-rows : {v list small : List ℕ} {start : ℕ} {number : List ℕ} → Valid v → length v ≤ 1024 → start + (length v - 1) ≤ listRoom
+    → map (held small) (take (length v - 1) (drop start list)) ≡ pairs v → length list ≡ listRoom → length small ≡ 1024 → length number ≡ 1024
     → ((c : ℕ) → c < length v → getD number c 0 ≡ c) → BeforeRows list small start (length v) number
 unfolding heldMerges
 before-rows {v} ok few room e ll ls ln itself = record {
@@ -162,6 +163,6 @@ before-rows {v} ok few room e ll ls ln itself = record {
   itself = itself;
 }
 
-pub rows-of-pairs : (v list small : List ℕ) (start : ℕ) → map (held small) (take (length v - 1) (drop start list)) ≡ pairs v → heldRows list small start (length v) ≡ rowsFrom (length v) (λ c. c) (pairs v)
+pub rows-of-pairs : (v list small : List ℕ) (start : ℕ) → map (held small) (take (length v - 1) (drop start list)) ≡ pairs v → heldRows list small start (length v) ≡ vectorRows v
 unfolding heldRows heldMerges
 rows-of-pairs v list small start e = rw e

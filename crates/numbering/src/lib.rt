@@ -8,7 +8,7 @@ ghost use Rattle.table_laws.specs.Rows.{first, second};
 ghost use Rattle.numbering.specs.Numbered.{heldRows, BeforeRows};
 use numbers::wide;
 
-// The children of the rows of the merges that list and small hold; number has the node of each name.
+/// The children of the rows of the merges that list and small hold; number has the node of each name.
 pub fn children(
     list: &[u16],
     small: &[u16],

@@ -8,14 +8,14 @@ use native.Mathlib.Omega.{arith}
 use lib.ListN.{length, drop, set, replicate}
 use borrow.Author.Tests.{ltb-true, lt-ltb}
 use Rattle.rules.specs.Building.{Merge}
-use Rattle.rules.specs.Tree.{Tree, has, LeavesBelow}
+use Rattle.rules.specs.Tree.{Tree, has}
 use Rattle.rules.specs.Order.{entryAt, listed, vectorOf}
 use Rattle.clades.specs.Leaves.{least-le}
 use Rattle.rows.specs.Larger.{Pair, pair-has, pair-of}
 use Rattle.clades.specs.Size.{size-below}
-use Rattle.rows.specs.Chains.{chain, falling, mergesOf, Smaller, In, Apart, Bounded, chain-starts, chain-none, falling-in, in-falling}
+use Rattle.rows.specs.Chains.{chain, falling, mergesOf, In, Apart, Bounded, chain-starts, chain-none, falling-in, in-falling}
 use Rattle.rows.specs.Falls.{order-falls, falling-apart}
-use Rattle.chains.specs.Walk.{cell, ChainIs}
+use Rattle.chains.specs.Walk.{cell}
 use Rattle.chains.specs.Drawn.{Drawn}
 use Rattle.chains.specs.Chain.{chain-short, falling-high, smaller-less}
 use Rattle.entries.specs.Entered.{MadeFrom, Planned, Holding, entered-start, entered-end}

@@ -19,7 +19,8 @@ use Rattle.clades.specs.Leaves.{least-has}
 use Rattle.rows.specs.Forest.{RowOk, namedIn, namedAlso, named-snoc, fault-append, fault-step}
 use Rattle.chains.specs.Walk.{cell}
 use Rattle.chains.specs.Built.{taken, nodes, Built, Adds}
-use Rattle.rows.specs.RowAt.{rowAt, rows-count, rows-drop, rows-take}
+use Rattle.table_laws.specs.Flat.{rowsOf-length}
+use Rattle.table_laws.specs.RowAt.{rowAt, rows-drop, rows-take}
 use Rattle.row_checks.specs.Mark.{mark}
 use Rattle.row_checks.specs.Verdict.{verdict, verdict-fault, placed, named-verdict, placed-row, in-place}
 
@@ -49,7 +50,7 @@ reads-start {xs = xs} l h e B = record {
 
 -- how many rows there are, and that t of them are taken
 rows-read : (n : ℕ) (xs : List ℕ) (t : ℕ) → length xs ≡ 3 * (n - 1) → t ≤ n - 1 → length (take t (rowsOf xs)) ≡ t
-rows-read n xs t e h = omega (arith, length-take t (rowsOf xs), rows-count (n - 1) xs e)
+rows-read n xs t e h = omega (arith, length-take t (rowsOf xs), rowsOf-length (n - 1) xs e)
 
 -- What is known of row t: its three numbers, as they stand in the table.
 pub record Row-at (n : ℕ) (xs : List ℕ) (t l r p : ℕ) : Type 0 where
@@ -245,7 +246,7 @@ pub reads-end : {n : ℕ} {xs : List ℕ} {t : ℕ} {names lows small next last 
     → AllRead n xs names lows small next last
 unfolding tableFault
 reads-end {n} {xs} {t} {names = a} {lows = b} {small = c} {next = d} {last = e′} R h =
-    let k = rows-count (n - 1) xs (R .count) in
+    let k = rowsOf-length (n - 1) xs (R .count) in
     let so = R .so-far in
     let e : take t (rowsOf xs) ≡ rowsOf xs = take-all t (rowsOf xs) (omega arith) in
     record {

@@ -6,8 +6,8 @@ use numbers::wide;
 use row_checks::Found;
 use row_checks::MARK;
 
-// Reads the rows of a table with n leaves: the first that is refused, or none, and then the arrays hold the tree.
-// A sum of two names tells whether one is a mark, since the others are below 1024.
+/// Reads the rows of a table with n leaves: the first that is refused, or none, and then the arrays hold the tree.
+/// A sum of two names tells whether one is a mark, since the others are below 1024.
 pub fn read_rows(
     n: usize,
     rows: &[u16],

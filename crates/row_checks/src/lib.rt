@@ -21,7 +21,7 @@ pub enum Found {
     NamedBefore(usize),
 }
 
-// Is a row, whose parent must be p, refused for its numbers?
+/// Is a row, whose parent must be p, refused for its numbers?
 pub fn misplaced(p: usize, l: usize, r: usize, parent: usize) -> bool
     ensures { λ b. ⌜ b ≡ ltb 0 (placed p (l, r, parent)) ⌝ }
 {
@@ -34,7 +34,7 @@ pub fn misplaced(p: usize, l: usize, r: usize, parent: usize) -> bool
     p <= r
 }
 
-// What is found of such a row t. It is worked out apart from the test, since few rows need it.
+/// What is found of such a row t. It is worked out apart from the test, since few rows need it.
 pub fn misplacement(p: usize, parent: usize, t: usize) -> Found
     ensures { λ f. ⌜ f ≡ misplacement p parent t ⌝ }
 {
@@ -44,7 +44,7 @@ pub fn misplacement(p: usize, parent: usize, t: usize) -> Found
     Found::Child(t)
 }
 
-// The name of node c, or MARK where a row has named it as a child: from now on this one has.
+/// The name of node c, or MARK where a row has named it as a child: from now on this one has.
 pub fn take_name(names: &mut [u16], c: usize) -> usize
     requires { ⌜ c < length (now names) ⌝ }
     ensures { λ x. ⌜ (x ≡ getD (now (names .entry)) c 0) × (now (names .exit) ≡ set (now (names .entry)) c mark) ⌝ }

@@ -1,6 +1,6 @@
 -- The order of a tree's merges by chains: pairs merge by the falling least larger name under them, and those of one such name from the bottom up.
 -- Main definitions: lowest, chain, falling, mergesOf, Smaller, In, Apart. Main results: chain-starts, lowest-starts, chain-in, chain-none, falling-in, in-falling.
-use mathlib.Core.Path.{_≡_, refl, sym, ap, ap₂, _∙_}
+use mathlib.Core.Path.{_≡_, refl, sym, _∙_}
 use mathlib.Core.Logic.{_≢_, _⊎_, inl, inr, ⊎-elim}
 use mathlib.Core.Bool.{Bool, true, false, cond}
 use mathlib.Core.List.{List, [], _∷_, _++_, append-nil}

@@ -1,10 +1,10 @@
 -- The clades of a table that is read, told by its rows, are those of its tree.
 -- Main results: under-has, has-under, rows-clades.
 use mathlib.Core.Path.{_≡_, refl, sym, ap, ap₂, _∙_, subst}
-use mathlib.Core.Logic.{_≢_, _⊎_, inl, inr, ⊎-elim, _↔_}
-use mathlib.Core.Bool.{Bool, true, false, not, _||_, cond, false≢true, true≢false}
-use mathlib.Core.List.{List, [], _∷_, _++_, List·Memᴰ, List·Memᴰ·head, List·Memᴰ·tail, List·Memᴰ·cases-cons, List·Memᴰ·not-nil}
-use mathlib.Core.Option.{Option, none}
+use mathlib.Core.Logic.{_⊎_, inl, inr, ⊎-elim, _↔_}
+use mathlib.Core.Bool.{Bool, true, false, not, _||_, false≢true}
+use mathlib.Core.List.{List, [], _∷_, List·Memᴰ, List·Memᴰ·head, List·Memᴰ·tail, List·Memᴰ·cases-cons, List·Memᴰ·not-nil}
+use mathlib.Core.Option.{none}
 use Prim.Native.Nat.{ℕ, zero, suc, _+_, _-_, _≤_, _<_}
 use native.Mathlib.Omega.{arith}
 use lib.Dec.{eqb, ltb}
@@ -16,11 +16,12 @@ use Rattle.rules.specs.Table.Under.{itself, left, right}
 use Rattle.basics.specs.Bools.{or-cases, both}
 use Rattle.clades.specs.Leaves.{has-left, has-right, has-cases}
 use Rattle.rows.specs.Count.{count, count-only}
-use Rattle.rows.specs.Forest.{namedAlso, namedIn, noded, RowOk, Forest, fault-none, forest-table}
+use Rattle.table_laws.specs.Nodes.{noded}
+use Rattle.rows.specs.Forest.{namedAlso, namedIn, RowOk, fault-none, forest-table}
 
 -- later rows leave the nodes below theirs as they are
 pub nodes-keep : (n t : ℕ) (named : ℕ → Bool) (c : Clusters) (rs : List Row) → rowFault n t named rs ≡ none → (k : ℕ) → k < n + t → nodesOf rs c k ≡ c k
-unfolding nodesOf noded
+unfolding nodesOf
 nodes-keep n t named c [] e k h = refl
 nodes-keep n t named c (r ∷ rs) e k h =
     let q = fault-none n t named r rs e in
@@ -33,7 +34,7 @@ Linked low high c r = (r .0 < r .2) × (r .1 < r .2) × (low ≤ r .2) × (r .2 
 
 row-linked : (n t : ℕ) (named : ℕ → Bool) (c : Clusters) (rs : List Row) → rowFault n t named rs ≡ none → (r : Row) → List·Memᴰ r rs
     → Linked (n + t) (n + t + length rs) (nodesOf rs c) r
-unfolding nodesOf noded Linked
+unfolding nodesOf Linked
 row-linked n t named c [] e r m = absurd (List·Memᴰ·not-nil m)
 row-linked n t named c (x ∷ rs) e r m = go (List·Memᴰ·cases-cons m) (row-linked n (t + 1) (namedAlso named x) (noded c x) rs (fault-none n t named x rs e .1) r)
   where

@@ -1,19 +1,20 @@
 -- What accepted rows leave: the nodes not yet named as a child have disjoint leaf sets that together are 0..n-1; after n-1 rows one is left.
 -- Main definitions: namedIn, RowOk, Forest. Main results: forest-start, forest-next, forest-rows, forest-end, rows-make-a-tree.
-use mathlib.Core.Path.{_≡_, refl, sym, ap, ap₂, _∙_}
+use mathlib.Core.Path.{_≡_, refl, sym, ap, _∙_}
 use mathlib.Core.Logic.{_≢_, _⊎_, inl, inr, ⊎-elim}
-use mathlib.Core.Bool.{Bool, true, false, not, _&&_, _||_, cond, false≢true, true≢false}
+use mathlib.Core.Bool.{Bool, true, false, not, _&&_, _||_, cond, false≢true}
 use mathlib.Core.List.{List, [], _∷_, _++_}
-use mathlib.Core.Option.{Option, none, some, Option·none-ne-some}
-use Prim.Native.Nat.{ℕ, zero, suc, _+_, _-_, _≤_, _<_}
+use mathlib.Core.Option.{none, some, Option·none-ne-some}
+use Prim.Native.Nat.{ℕ, suc, _+_, _-_, _≤_, _<_}
 use native.Mathlib.Omega.{arith}
 use lib.Dec.{eqb, ltb}
 use lib.ListN.{length}
-use borrow.Author.Tests.{eqb-true, eqb-false, eq-eqb, ne-eqb, ltb-true, lt-ltb, le-ltb}
-use Rattle.rules.specs.Tree.{Tree, leaf, node, has, Distinct, LeavesBelow, Clusters}
-use Rattle.rules.specs.Table.{Row, Fault, childrenBelow, namedTwice, rowFault, tableFault, nodesOf, tableTree}
+use borrow.Author.Tests.{eqb-true, eqb-false, eq-eqb, ne-eqb, ltb-true, lt-ltb}
+use Rattle.rules.specs.Tree.{leaf, node, has, Distinct, LeavesBelow, Clusters}
+use Rattle.rules.specs.Table.{Row, childrenBelow, namedTwice, rowFault, tableFault, nodesOf, tableTree}
 use Rattle.basics.specs.Bools.{or-cases, or-no, or-false, both}
 use Rattle.clades.specs.Leaves.{has-left, has-right, has-cases}
+use Rattle.table_laws.specs.Nodes.{noded}
 use Rattle.rows.specs.Count.{last-or-before, bit, count, count-all, count-without, count-only}
 
 -- k is a child of the row, or was named before
@@ -25,10 +26,6 @@ unfoldable pub namedIn : (ℕ → Bool) → List Row → ℕ → Bool
 unfolding namedAlso
 namedIn named [] = named
 namedIn named (r ∷ rs) = namedIn (namedAlso named r) rs
-
--- the nodes after one row more
-unfoldable pub noded : Clusters → Row → Clusters
-noded c r = λ k. cond (eqb k (r .2)) (node (c (r .0)) (c (r .1))) (c k)
 
 -- row t is accepted after rows with these children
 pub record RowOk (n t : ℕ) (named : ℕ → Bool) (r : Row) : Type 0 where
@@ -75,11 +72,9 @@ named-not named r k e h j = rw (e, ne-eqb k (r .0) h, ne-eqb k (r .1) j)
 -- One row more.
 module _ (n t : ℕ) (named : ℕ → Bool) (c : Clusters) (r : Row) (F : Forest n t named c) (R : RowOk n t named r) where
   noded-new : (k : ℕ) → k ≡ n + t → noded c r k ≡ node (c (r .0)) (c (r .1))
-  unfolding noded
   noded-new k e = rw (eq-eqb k (r .2) (e ∙ sym (R .parent)))
 
   noded-old : (k : ℕ) → k < n + t → noded c r k ≡ c k
-  unfolding noded
   noded-old k h = rw (ne-eqb k (r .2) (λ e. let z = R .parent in omega arith))
 
   new-or-old : (k : ℕ) → k < n + (t + 1) → (k ≡ n + t) ⊎ (k < n + t)
@@ -215,7 +210,7 @@ fault-step n t named r rs R =
 -- accepted rows leave a forest
 pub forest-rows : (n t : ℕ) (named : ℕ → Bool) (c : Clusters) (rs : List Row) → Forest n t named c → rowFault n t named rs ≡ none
     → Forest n (t + length rs) (namedIn named rs) (nodesOf rs c)
-unfolding namedIn nodesOf noded
+unfolding namedIn nodesOf
 forest-rows n t named c [] F e = let z : t + 0 ≡ t = omega arith in rw z F
 forest-rows n t named c (r ∷ rs) F e =
     let k = fault-none n t named r rs e in
@@ -254,7 +249,7 @@ named-snoc named [] r = refl
 named-snoc named (x ∷ rs) r = named-snoc (namedAlso named x) rs r
 
 pub nodes-snoc : (c : Clusters) (rs : List Row) (r : Row) → nodesOf (rs ++ (r ∷ [])) c ≡ noded (nodesOf rs c) r
-unfolding nodesOf noded
+unfolding nodesOf
 nodes-snoc c [] r = refl
 nodes-snoc c (x ∷ rs) r = nodes-snoc (noded c x) rs r
 

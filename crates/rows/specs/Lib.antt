@@ -5,4 +5,3 @@ pub mod Collapse
 pub mod Count
 pub mod Forest
 pub mod Clades
-pub mod RowAt

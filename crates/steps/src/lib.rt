@@ -31,7 +31,7 @@ pub fn raise_names(steps: &mut [u8])
     }
 }
 
-// One member more in block w.
+/// One member more in block w.
 pub fn add_to_blocks(blocks: &mut [u16], steps: &[u16], w: usize)
     requires { ⌜ (length (now blocks) ≡ 16) × (w < 16) ⌝ }
     requires { ⌜ ((x : ℕ) → x < 16 → getD (now blocks) x 0 ≤ 1024) ⌝ }
@@ -46,7 +46,7 @@ pub fn add_to_blocks(blocks: &mut [u16], steps: &[u16], w: usize)
     }
 }
 
-// One member more, i, in the block of i.
+/// One member more, i, in the block of i.
 pub fn add_to_names(names: &mut [u8], steps: &[u8], i: usize)
     requires { ⌜ (length (now names) ≡ 1024) × (i < 1024) ⌝ }
     requires { ⌜ ((x : ℕ) → x < 1024 → getD (now names) x 0 ≤ 63) ⌝ }

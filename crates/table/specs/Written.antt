@@ -11,7 +11,7 @@ use Rattle.rules.specs.Table.{Row, flat, rowsFrom}
 use Rattle.lists.specs.Front.{mix, mix-start, mix-step}
 use Rattle.merging.specs.Insertion.{pairs, pairs-count}
 use Rattle.table_laws.specs.Flat.{flat-length, flat-first, flat-second, flat-parent}
-use Rattle.table_laws.specs.Rows.{first, second, rows-length, tied-rows}
+use Rattle.table_laws.specs.Rows.{first, second, vectorRows, rows-length, tied-rows}
 use Rattle.table_laws.specs.Tied.{tied, tied-length, tied-at}
 
 -- the n - 1 rows with these children: the parent of row t is n + t
@@ -98,8 +98,8 @@ written-end {n} {left} {right} {out₀} {out} {parent} {t} W h =
     ∙ ap (λ (l : List ℕ). l ++ drop (3 * (n - 1)) out₀) (take-all (3 * (n - 1)) (flat rows) (omega (arith, flat-length rows)))
 
 -- the children of a vector's rows make these rows
-pub rows-of-children : (v left right rest rest′ : List ℕ) → left ≡ map first (rowsFrom (length v) (λ c. c) (pairs v)) ++ rest
-    → right ≡ map second (rowsFrom (length v) (λ c. c) (pairs v)) ++ rest′ → childRows (length v) left right ≡ rowsFrom (length v) (λ c. c) (pairs v)
+pub rows-of-children : (v left right rest rest′ : List ℕ) → left ≡ map first (vectorRows v) ++ rest
+    → right ≡ map second (vectorRows v) ++ rest′ → childRows (length v) left right ≡ vectorRows v
 unfolding childRows pairs
 rows-of-children v left right rest rest′ p q =
     let n = length v in

@@ -5,8 +5,8 @@ ghost use mathlib.Core.List.{_++_};
 ghost use Prim.Native.Nat.{_-_, _*_, _≤_};
 ghost use lib.ListN.{length, drop};
 ghost use Rattle.rules.specs.Vector.{Valid};
-ghost use Rattle.rules.specs.Table.{flat, rowsFrom};
-ghost use Rattle.merging.specs.Insertion.{pairs};
+ghost use Rattle.rules.specs.Table.{flat};
+ghost use Rattle.table_laws.specs.Rows.{vectorRows};
 ghost use Rattle.table.specs.Written.{childRows};
 
 // The rows with these children, three numbers each: the parent of row t is n+t. It is counted in 16 bits, as wide as the rows'
@@ -27,10 +27,10 @@ fn copy_rows(n: usize, left: &[u16], right: &[u16], out: &mut [u16])
     }
 }
 
-// The table of v: the children of its rows are built in local arrays, and copied out as rows.
+/// The table of v: the children of its rows are built in local arrays, and copied out as rows.
 pub fn write_table(v: &[u16], out: &mut [u16])
     requires { ⌜ Valid (now v) × (length (now v) ≤ 1024) × (3 * (length (now v) - 1) ≤ length (now out)) ⌝ }
-    ensures { λ r. ⌜ now (out .exit) ≡ flat (rowsFrom (length (now (v .entry))) (λ c. c) (pairs (now (v .entry)))) ++ drop (3 * (length (now (v .entry)) - 1)) (now (out .entry)) ⌝ }
+    ensures { λ r. ⌜ now (out .exit) ≡ flat (vectorRows (now (v .entry))) ++ drop (3 * (length (now (v .entry)) - 1)) (now (out .entry)) ⌝ }
 {
     let mut left = [0u16; 1024];
     let mut right = [0u16; 1024];

@@ -10,12 +10,12 @@ use Rattle.rules.specs.Order.{vectorOf}
 use Rattle.rules.specs.Table.{rowsOf, tableFault, tableTree}
 use Rattle.rows.specs.Forest.{rows-make-a-tree}
 use Rattle.laws.specs.OneToOne.{every-tree}
-use Rattle.rows.specs.RowAt.{rows-count}
+use Rattle.table_laws.specs.Flat.{rowsOf-length}
 
 -- the vector of accepted rows has an entry for each leaf
 pub vector-count : (n : ℕ) (xs : List ℕ) → 1 ≤ n → length xs ≡ 3 * (n - 1) → tableFault n (rowsOf xs) ≡ none → length (vectorOf (tableTree n (rowsOf xs))) ≡ n
 vector-count n xs h e f =
-    every-tree n (tableTree n (rowsOf xs)) (rows-make-a-tree n (rowsOf xs) f (rows-count (n - 1) xs e) h) .entries
+    every-tree n (tableTree n (rowsOf xs)) (rows-make-a-tree n (rowsOf xs) f (rowsOf-length (n - 1) xs e) h) .entries
 
 -- the vector at the front of the array that was read into
 pub read-front : (n : ℕ) (xs vector rest : List ℕ) → vector ≡ vectorOf (tableTree n (rowsOf xs)) ++ rest → length (vectorOf (tableTree n (rowsOf xs))) ≡ n

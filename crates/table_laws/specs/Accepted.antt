@@ -1,7 +1,7 @@
 -- A table that is written is accepted when it is read.
 -- Main definition: Fresh. Main results: rows-accepted, table-accepted, pairs-accepted, pairs-below.
 use mathlib.Core.Path.{_≡_, refl, sym, _∙_}
-use mathlib.Core.Bool.{Bool, true, false, _||_, cond}
+use mathlib.Core.Bool.{Bool, true, false, _||_}
 use mathlib.Core.List.{List, [], _∷_}
 use mathlib.Core.Option.{none}
 use Prim.Native.Nat.{ℕ, _+_, _-_, _≤_, _<_}
@@ -16,7 +16,8 @@ use Rattle.merging.specs.Insertion.{valid-bounded, pairsOf, pairs, pairs-count}
 use Rattle.merging.specs.Greedy.{Under, under-pairs}
 use Rattle.merging.specs.Named.{named, Good, good, smaller-named, larger-named, still-named, not-larger, named-below}
 use Rattle.table_laws.specs.Nodes.{accepted-stands, stands-row}
-use Rattle.table_laws.specs.Rows.{renumber, renumber-same, renumber-other, renumber-below, rows-length}
+use Rattle.table_laws.specs.Rows.{vectorRows, renumber, renumber-same, renumber-other, renumber-below, rows-length}
+use Rattle.table_laws.specs.Follows.{nodes-follow}
 
 -- The names that are left have nodes of their own: below p, and named by no row so far.
 pub record Fresh (P : List Merge) (p : ℕ) (number : ℕ → ℕ) (used : ℕ → Bool) : Type 0 where
@@ -42,21 +43,17 @@ module _ (m : Merge) (P : List Merge) (p : ℕ) (number : ℕ → ℕ) (used : �
   fresh-next : Fresh P (p + 1) (renumber number (m .0) p) (λ c. used c || eqb c (number (m .0)) || eqb c (number (m .1)))
   fresh-next = record {
     below = λ x h. renumber-below number (m .0) p x (old x h);
-    unused = λ x h. unused′ x h (eqb x (m .0)) refl;
+    unused = nodes-follow (λ x k. used k ≡ false) (λ x k. used k || eqb k (number (m .0)) || eqb k (number (m .1)) ≡ false) m P p number (F .unused)
+        (unused-next p (F .above p (omega arith)) (λ e. omega (arith, a-below)) (λ e. omega (arith, b-below)))
+        (λ x h d u. unused-next (number x) u
+        (λ e. d (F .apart x (m .0) (still-named m P x h) (smaller-named m P G) e))
+        (λ e. not-larger m P G x h (F .apart x (m .1) (still-named m P x h) (larger-named m P) e)));
     apart = λ x y h g e. apart′ x y h g e (eqb x (m .0)) refl (eqb y (m .0)) refl;
     above = λ k h. unused-next k (F .above k (omega arith)) (λ e. omega (arith, a-below)) (λ e. omega (arith, b-below));
   }
     where
       old : (x : ℕ) → named P x ≡ true → number x < p
       old x h = F .below x (still-named m P x h)
-
-      unused′ : (x : ℕ) → named P x ≡ true → (b : Bool) → eqb x (m .0) ≡ b → used (cond b p (number x)) || eqb (cond b p (number x)) (number (m .0)) || eqb (cond b p (number x)) (number (m .1)) ≡ false
-      unused′ x h true q = unused-next p (F .above p (omega arith)) (λ e. omega (arith, a-below)) (λ e. omega (arith, b-below))
-      unused′ x h false q =
-          let g = still-named m P x h in
-          unused-next (number x) (F .unused x g)
-          (λ e. eqb-false x (m .0) q (F .apart x (m .0) g (smaller-named m P G) e))
-          (λ e. not-larger m P G x h (F .apart x (m .1) g (larger-named m P) e))
 
       apart′ : (x y : ℕ) → named P x ≡ true → named P y ≡ true → renumber number (m .0) p x ≡ renumber number (m .0) p y → (b : Bool) → eqb x (m .0) ≡ b → (d : Bool) → eqb y (m .0) ≡ d → x ≡ y
       apart′ x y h g e true q true r = eqb-true x (m .0) q ∙ sym (eqb-true y (m .0) r)
@@ -100,7 +97,7 @@ table-accepted n P h u G =
     rw z at (rows-accepted n 0 (λ c. c) (λ c. false) P G (rw z F))
 
 -- the table of a vector is accepted
-pub pairs-accepted : (v : List ℕ) → Valid v → tableFault (length v) (rowsFrom (length v) (λ c. c) (pairs v)) ≡ none
+pub pairs-accepted : (v : List ℕ) → Valid v → tableFault (length v) (vectorRows v) ≡ none
 unfolding pairs
 pairs-accepted v ok =
     table-accepted (length v) (pairsOf (entry v) (length v)) (ok .some-leaf) (under-pairs (entry v) (length v))
@@ -108,9 +105,9 @@ pairs-accepted v ok =
 
 -- and each of its rows has its children below its parent
 pub pairs-below : (v : List ℕ) → Valid v → (k : ℕ) → k < length v - 1
-    → (getD (rowsFrom (length v) (λ c. c) (pairs v)) k (0, 0, 0) .0 < length v + k) × (getD (rowsFrom (length v) (λ c. c) (pairs v)) k (0, 0, 0) .1 < length v + k)
+    → (getD (vectorRows v) k (0, 0, 0) .0 < length v + k) × (getD (vectorRows v) k (0, 0, 0) .1 < length v + k)
 unfolding pairs
 pairs-below v ok k h =
-    let rows = rowsFrom (length v) (λ c. c) (pairs v) in
+    let rows = vectorRows v in
     stands-row (length v) rows k (0, 0, 0) (accepted-stands (length v) rows (pairs-accepted v ok))
     (omega (arith, rows-length (length v) (λ c. c) (pairs v), pairs-count (entry v) (length v)))

@@ -1,11 +1,10 @@
 -- The tree of a table that is written is the tree that its merges build, and its rows are the merges in their order.
 -- Main results: row-clusters, rows-grow, table-tree, pairs-tree.
 use mathlib.Core.Path.{_≡_, refl, ap₂, _∙_}
-use mathlib.Core.Bool.{Bool, true, false, cond}
+use mathlib.Core.Bool.{true}
 use mathlib.Core.List.{List, [], _∷_}
 use Prim.Native.Nat.{ℕ, zero, suc, _+_, _-_, _<_}
 use native.Mathlib.Omega.{arith}
-use lib.Dec.{eqb}
 use lib.ListN.{length, take, getD}
 use borrow.Author.Tests.{eqb-true, eq-eqb, ne-eqb}
 use Rattle.rules.specs.Vector.{entry, Valid}
@@ -15,8 +14,9 @@ use Rattle.rules.specs.Table.{rowsFrom, nodesOf, tableTree}
 use Rattle.merging.specs.Insertion.{valid-bounded, pairsOf, pairs, pairs-count}
 use Rattle.merging.specs.Greedy.{Under, under-pairs}
 use Rattle.merging.specs.Named.{named, Good, good, smaller-named, larger-named, still-named, named-below}
-use Rattle.table_laws.specs.Nodes.{CountUp, noded, nodes-keep}
-use Rattle.table_laws.specs.Rows.{renumber, renumber-below, rows-length}
+use Rattle.table_laws.specs.Nodes.{noded, nodes-keep}
+use Rattle.table_laws.specs.Rows.{vectorRows, renumber, renumber-below, rows-length}
+use Rattle.table_laws.specs.Follows.{nodes-follow, rows-count-up}
 
 -- Each name that is left has a node below p, and the node's tree is the cluster's; where no merge is left, 0 has the last node.
 pub record Same (P : List Merge) (p : ℕ) (number : ℕ → ℕ) (C D : Clusters) : Type 0 where
@@ -34,21 +34,14 @@ same-next : (m : Merge) (P : List Merge) (p : ℕ) (number : ℕ → ℕ) (C D :
 unfolding joined
 same-next m P p number C D G S = record {
   below = λ x h. renumber-below number (m .0) p x (old x h);
-  tree = λ x h. tree′ x h (eqb x (m .0)) refl;
+  tree = nodes-follow (λ x k. C k ≡ D x) (λ x k. noded C (number (m .0), number (m .1), p) k ≡ joined m D x) m P p number (S .tree)
+      (rw (eq-eqb p p refl, eq-eqb (m .0) (m .0) refl) (ap₂ node (S .tree (m .0) (smaller-named m P G)) (S .tree (m .1) (larger-named m P))))
+      (λ x h d e. rw (ne-eqb (number x) p (λ q. omega (arith, old x h)), ne-eqb x (m .0) d) e);
   last = λ e. let z : p + 1 - 1 ≡ p = omega arith in rw (eq-eqb 0 (m .0) (last-merge m P G e), z);
 }
   where
     old : (x : ℕ) → named P x ≡ true → number x < p
     old x h = S .below x (still-named m P x h)
-
-    tree′ : (x : ℕ) → named P x ≡ true → (b : Bool) → eqb x (m .0) ≡ b → noded C (number (m .0), number (m .1), p) (cond b p (number x)) ≡ cond b (node (D (m .0)) (D (m .1))) (D x)
-    tree′ x h true q = rw (eq-eqb p p refl) (ap₂ node (S .tree (m .0) (smaller-named m P G)) (S .tree (m .1) (larger-named m P)))
-    tree′ x h false q = rw (ne-eqb (number x) p (λ e. omega (arith, old x h))) (S .tree x (still-named m P x h))
-
-rows-count-up : (p : ℕ) (number : ℕ → ℕ) (P : List Merge) → CountUp p (rowsFrom p number P)
-unfolding CountUp rowsFrom
-rows-count-up p number [] = tt
-rows-count-up p number (m ∷ P) = (refl, rows-count-up (p + 1) (renumber number (m .0) p) P)
 
 -- the children of row t are the two clusters of merge t, as they are after the merges before it
 pub row-clusters : (P : List Merge) (p : ℕ) (number : ℕ → ℕ) (C D : Clusters) → Good P → Same P p number C D → (t : ℕ) → t < length P
@@ -84,7 +77,7 @@ unfolding tableTree
 table-tree n P e u G = rw (rows-length n (λ c. c) P) (rows-grow P n (λ c. c) leaf leaf G (same-start n P e u))
 
 -- the tree of a vector's table
-pub pairs-tree : (v : List ℕ) → Valid v → tableTree (length v) (rowsFrom (length v) (λ c. c) (pairs v)) ≡ grown (pairs v) leaf 0
+pub pairs-tree : (v : List ℕ) → Valid v → tableTree (length v) (vectorRows v) ≡ grown (pairs v) leaf 0
 unfolding pairs
 pairs-tree v ok =
     let some = ok .some-leaf in

@@ -1,5 +1,5 @@
 -- The nodes of rows whose parents count up: each is the pair of its row's children.
--- Main definitions: CountUp, Stands. Main results: nodes-keep, nodes-row, accepted-stands, stands-row, leaf-of, node-of.
+-- Main definitions: CountUp, noded, Stands. Main results: nodes-keep, nodes-row, accepted-stands, stands-row, leaf-of, node-of.
 use mathlib.Core.Path.{_≡_, refl, sym, ap, ap₂, _∙_}
 use mathlib.Core.Bool.{Bool, true, false, not, _||_, cond}
 use mathlib.Core.List.{List, [], _∷_}
@@ -18,7 +18,7 @@ unfoldable pub CountUp : ℕ → List Row → Type 0
 CountUp p [] = Unit {0}
 CountUp p (r ∷ rs) = (r .2 ≡ p) × CountUp (p + 1) rs
 
--- the nodes after a row
+-- the nodes after one row more
 abbrev pub noded : Clusters → Row → Clusters
 noded c r = λ k. cond (eqb k (r .2)) (node (c (r .0)) (c (r .1))) (c k)
 

@@ -1,5 +1,5 @@
 -- The rows of merges: a row for each, whose parents count up.
--- Main definitions: first, second, renumber, Inside. Main results: rows-length, table-length, parent-at, tied-rows, rows-cong.
+-- Main definitions: first, second, vectorRows, renumber, Inside. Main results: rows-length, table-length, parent-at, tied-rows, rows-cong.
 use mathlib.Core.Path.{_≡_, refl, sym, ap, ap₂, _∙_}
 use mathlib.Core.Bool.{Bool, true, false, cond}
 use mathlib.Core.List.{List, [], _∷_, map}
@@ -11,6 +11,7 @@ use lib.ListN.{length, drop, getD}
 use borrow.Author.Tests.{eq-eqb, ne-eqb}
 use Rattle.rules.specs.Building.{Merge}
 use Rattle.rules.specs.Table.{Row, rowsFrom, flat}
+use Rattle.merging.specs.Insertion.{pairs}
 use Rattle.merging.specs.Greedy.{Under}
 use Rattle.merging.specs.Named.{Rising}
 use Rattle.table_laws.specs.Flat.{flat-length}
@@ -22,6 +23,10 @@ first r = r .0
 
 abbrev pub second : Row → ℕ
 second r = r .1
+
+-- the rows of a vector
+abbrev pub vectorRows : List ℕ → List Row
+vectorRows v = rowsFrom (length v) (λ c. c) (pairs v)
 
 -- the numbers of the clusters after a merge that keeps the name a and makes the node p
 abbrev pub renumber : (ℕ → ℕ) → ℕ → ℕ → ℕ → ℕ

@@ -6,7 +6,7 @@ ghost use lib.ListN.{length};
 ghost use Rattle.table_order.specs.Told.{Told};
 use row_checks::Found;
 
-// Reads a table with n leaves: the first row that is refused, or none, and then vector begins with the vector of its tree.
+/// Reads a table with n leaves: the first row that is refused, or none, and then vector begins with the vector of its tree.
 pub fn table_vector(n: usize, rows: &[u16], vector: &mut [u16]) -> Found
     requires { ⌜ (1 ≤ n) × (n ≤ 1024) × (length (now rows) ≡ 3 * (n - 1)) × (n ≤ length (now vector)) ⌝ }
     ensures { λ r. ⌜ Told n (now (rows .entry)) (now (vector .entry)) (now (vector .exit)) r ⌝ }

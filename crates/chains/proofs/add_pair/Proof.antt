@@ -9,8 +9,15 @@ use Rattle.chains.proofs.add_pair.Statement.{statement}
 use Rattle.chains.proofs.add_pair.Tie as tie
 
 -- room for the row's names and its key
-here : (c : tie.After-lesser2) → (c .before .before .before .before .before .before .before .before .before .before .before .args .a < 1024) × (c .before .before .before .before .before .before .before .before .before .before .before .args .i < 1024) × (c .lesser2 .result < 1024) × (c .before .before .before .before .before .before .before .before .before .before .before .args .i < length (c .before .before .before .before .before .before .before .before .before .before .before .args .small .now)) × (c .lesser2 .result < length (c .before .before .before .before .before .before .before .before .before .before .before .args .last .now))
-here c = adds-room (c .before .before .before .before .before .before .before .before .before .before .before .pre .2) (c .before .before .before .before .wide .ensures) (c .before .wide2 .ensures) (c .before .before .before .lesser .ensures) (c .lesser2 .ensures)
+here : (c : tie.After-lesser2) →
+    let args = c .before .before .before .before .before .before .before .before .before .before .before .args in
+    (args .a < 1024) × (args .i < 1024) × (c .lesser2 .result < 1024) × (args .i < length (args .small .now)) × (c .lesser2 .result < length (args .last .now))
+here c =
+    let wide2 = c .before .wide2 in
+    let lesser = c .before .before .before .lesser in
+    let wide = c .before .before .before .before .wide in
+    let given = c .before .before .before .before .before .before .before .before .before .before .before .pre in
+    adds-room (given .2) (wide .ensures) (wide2 .ensures) (lesser .ensures) (c .lesser2 .ensures)
 
 mul-wide : tie.Need-mul-wide
 mul-wide c = search needs
@@ -58,10 +65,22 @@ cast-next : tie.Need-cast-next
 cast-next c = omega (arith, here (c .before .before))
 
 mul-next : tie.Need-mul-next
-mul-next c = omega (arith, adds-last (c .before .before .before .before .before .before .before .before .before .before .before .before .before .pre .2) (c .before .before .before .before .before .before .wide .ensures) (c .before .before .before .wide2 .ensures) (c .before .before .before .before .before .lesser .ensures) (c .before .before .lesser2 .ensures) (c .wide3 .ensures))
+mul-next c =
+    let lesser2 = c .before .before .lesser2 in
+    let wide2 = c .before .before .before .wide2 in
+    let lesser = c .before .before .before .before .before .lesser in
+    let wide = c .before .before .before .before .before .before .wide in
+    let given = c .before .before .before .before .before .before .before .before .before .before .before .before .before .pre in
+    omega (arith, adds-last (given .2) (wide .ensures) (wide2 .ensures) (lesser .ensures) (lesser2 .ensures) (c .wide3 .ensures))
 
 slice-write-next : tie.Need-slice-write-next
-slice-write-next c = adds-last (c .before .before .before .before .before .before .before .before .before .before .before .before .before .pre .2) (c .before .before .before .before .before .before .wide .ensures) (c .before .before .before .wide2 .ensures) (c .before .before .before .before .before .lesser .ensures) (c .before .before .lesser2 .ensures) (c .wide3 .ensures)
+slice-write-next c =
+    let lesser2 = c .before .before .lesser2 in
+    let wide2 = c .before .before .before .wide2 in
+    let lesser = c .before .before .before .before .before .lesser in
+    let wide = c .before .before .before .before .before .before .wide in
+    let given = c .before .before .before .before .before .before .before .before .before .before .before .before .before .pre in
+    adds-last (given .2) (wide .ensures) (wide2 .ensures) (lesser .ensures) (lesser2 .ensures) (c .wide3 .ensures)
 
 cast-last : tie.Need-cast-last
 cast-last c = omega (arith, here (c .before .before))
@@ -106,7 +125,12 @@ same-length-5 : tie.Need-same-length-5
 same-length-5 c = search needs
 
 returns : tie.Need-returns
-returns c = (λ n rs A. built-next A (c .before .before .before .before .before .before .wide .ensures) (c .before .before .before .wide2 .ensures) (c .before .before .before .before .before .lesser .ensures) (c .before .before .lesser2 .ensures) (c .wide3 .ensures), refl)
+returns c =
+    let lesser2 = c .before .before .lesser2 in
+    let wide2 = c .before .before .before .wide2 in
+    let lesser = c .before .before .before .before .before .lesser in
+    let wide = c .before .before .before .before .before .before .wide in
+    (λ n rs A. built-next A (wide .ensures) (wide2 .ensures) (lesser .ensures) (lesser2 .ensures) (c .wide3 .ensures), refl)
 
 pub add-pair-spec : {M : Type 1} → statement M
 add-pair-spec =

@@ -66,7 +66,15 @@ add-add-pair : tie.Need-add-add-pair Inv-loop μ-loop
 add-add-pair c = search needs
 
 add-pair-requires : tie.Need-add-pair-requires Inv-loop μ-loop
-add-pair-requires c κs = some-adds (c .before .before .before .before .before .before .before .before .before .before .before .before .before .before .before .before .loop .inv .0) (omega arith) (c .before .before .before .before .before .before .before .before .before .before .before .before .before .wide .ensures) (c .before .before .before .before .before .before .before .before .before .before .before .wide2 .ensures) (c .before .before .before .before .before .before .before .before .before .wide3 .ensures) (c .before .before .before .before .before .before .before .wide4 .ensures) (c .before .before .before .before .before .before .lesser .ensures) (c .before .before .before .before .before .greater .ensures)
+add-pair-requires c κs =
+    let greater = c .before .before .before .before .before .greater in
+    let lesser = c .before .before .before .before .before .before .lesser in
+    let wide4 = c .before .before .before .before .before .before .before .wide4 in
+    let wide3 = c .before .before .before .before .before .before .before .before .before .wide3 in
+    let wide2 = c .before .before .before .before .before .before .before .before .before .before .before .wide2 in
+    let wide = c .before .before .before .before .before .before .before .before .before .before .before .before .before .wide in
+    let loop = c .before .before .before .before .before .before .before .before .before .before .before .before .before .before .before .before .loop in
+    some-adds (loop .inv .0) (omega arith) (wide .ensures) (wide2 .ensures) (wide3 .ensures) (wide4 .ensures) (lesser .ensures) (greater .ensures)
 
 add-t : tie.Need-add-t Inv-loop μ-loop
 add-t c = search needs
@@ -75,11 +83,28 @@ loop-less : tie.Need-loop-less Inv-loop μ-loop
 loop-less c = search needs
 
 loop-again : tie.Need-loop-again Inv-loop μ-loop
-loop-again c = (
-  added-next (c .before .before .before .before .before .before .before .before .before .before .before .before .before .before .before .before .before .before .before .before .before .before .before .before .before .before .before .loop .inv .0) (omega arith) (c .before .before .before .before .before .before .before .before .before .before .before .before .before .before .before .before .before .before .before .before .before .before .before .before .wide .ensures) (c .before .before .before .before .before .before .before .before .before .before .before .before .before .before .before .before .before .before .before .before .before .before .wide2 .ensures) (c .before .before .before .before .before .before .before .before .before .before .before .before .before .before .before .before .before .before .before .before .wide3 .ensures) (c .before .before .before .before .before .before .before .before .before .before .before .before .before .before .before .before .before .before .wide4 .ensures) (c .before .before .before .before .before .before .before .before .before .before .before .before .before .before .before .before .before .lesser .ensures) (c .before .before .before .before .before .before .before .before .before .before .before .before .before .before .before .before .greater .ensures) (c .before .before .before .before .before .before .before .before .before .before .add-pair .ensures .0),
-  record { of-names = omega (arith, c .before .before .before .before .before .before .before .before .before .before .add-pair .kept); of-lows = omega (arith, c .before .before .before .before .before .before .before .before .before .before .add-pair .kept); of-small = omega (arith, c .before .before .before .before .before .before .before .before .before .before .add-pair .kept); of-next = omega (arith, c .before .before .before .before .before .before .before .before .before .before .add-pair .kept); of-last = omega (arith, c .before .before .before .before .before .before .before .before .before .before .add-pair .kept) },
-  c .before .before .before .before .before .before .before .before .before .before .before .before .before .before .before .before .before .before .before .before .before .before .before .before .before .before .before .loop .inv .2,
-)
+loop-again c =
+    let add-pair = c .before .before .before .before .before .before .before .before .before .before .add-pair in
+    let greater = c .before .before .before .before .before .before .before .before .before .before .before .before .before .before .before .before .greater in
+    let lesser = c .before .before .before .before .before .before .before .before .before .before .before .before .before .before .before .before .before .lesser in
+    let wide4 = c .before .before .before .before .before .before .before .before .before .before .before .before .before .before .before .before .before .before .wide4 in
+    let wide3 = c .before .before .before .before .before .before .before .before .before .before .before .before .before .before .before .before .before .before .before .before .wide3 in
+    let wide2 = c .before .before .before .before .before .before .before .before .before .before .before .before .before .before .before .before .before .before .before .before .before .before .wide2 in
+    let wide = c .before .before .before .before .before .before .before .before .before .before .before .before .before .before .before .before .before .before .before .before .before .before .before .before .wide in
+    let loop = c .before .before .before .before .before .before .before .before .before .before .before .before .before .before .before .before .before .before .before .before .before .before .before .before .before .before .before .loop in
+    let test = c .before .before .before .before .before .before .before .before .before .before .before .before .before .before .before .before .before .before .before .before .before .before .before .before .before .before .loop-test in
+    let kept = add-pair .kept in
+    let old = loop .inv .1 in (
+      added-next (loop .inv .0) (omega (arith, test .taken, loop .inv .2)) (wide .ensures) (wide2 .ensures) (wide3 .ensures) (wide4 .ensures) (lesser .ensures) (greater .ensures) (add-pair .ensures .0),
+      record {
+        of-names = omega (arith, old .of-names);
+        of-lows = omega (arith, old .of-lows);
+        of-small = omega (arith, old .of-small);
+        of-next = omega (arith, old .of-next);
+        of-last = omega (arith, old .of-last);
+      },
+      loop .inv .2,
+    )
 
 same-length : tie.Need-same-length Inv-loop μ-loop
 same-length c = search needs

@@ -27,7 +27,10 @@ slice-aggregate-add-children-5 : tie.Need-slice-aggregate-add-children-5
 slice-aggregate-add-children-5 c = search needs
 
 add-children-requires : tie.Need-add-children-requires
-add-children-requires c κs = (c .before .before .before .before .before .before .before .before .before .before .before .pre .0 .0, added-start (c .before .before .before .before .before .before .before .before .before .before .before .pre .0 .1) (c .before .before .before .before .before .before .before .before .before .before .before .pre .0 .2) (c .before .before .before .before .before .before .before .before .before .before .before .pre .0 .3) (c .before .before .before .before .before .before .before .before .before .before .before .pre .1) (built-leaves (c .before .before .before .before .before .before .before .before .before .before .before .pre .0 .1) (search needs) (c .before .before .before .before .before .before .number-leaves .ensures)))
+add-children-requires c κs =
+    let number-leaves = c .before .before .before .before .before .before .number-leaves in
+    let given = c .before .before .before .before .before .before .before .before .before .before .before .pre in
+    (given .0 .0, added-start (given .0 .1) (given .0 .2) (given .0 .3) (given .1) (built-leaves (given .0 .1) (search needs) (number-leaves .ensures)))
 
 slice-aggregate-vector-of : tie.Need-slice-aggregate-vector-of
 slice-aggregate-vector-of c = search needs
@@ -39,13 +42,20 @@ slice-aggregate-vector-of-3 : tie.Need-slice-aggregate-vector-of-3
 slice-aggregate-vector-of-3 c = search needs
 
 vector-of-requires : tie.Need-vector-of-requires
-vector-of-requires c κs = (some-tree (c .before .before .before .before .before .before .before .before .before .add-children .ensures) (omega arith) (c .before .before .before .before .before .before .before .before .before .before .before .before .before .before .before .before .before .before .before .before .before .pre .0 .0), c .before .before .before .before .before .before .before .before .before .before .before .before .before .before .before .before .before .before .before .before .before .pre .0 .4)
+vector-of-requires c κs =
+    let add-children = c .before .before .before .before .before .before .before .before .before .add-children in
+    let given = c .before .before .before .before .before .before .before .before .before .before .before .before .before .before .before .before .before .before .before .before .before .pre in
+    (some-tree (add-children .ensures) (omega arith) (given .0 .0), given .0 .4)
 
 same-length : tie.Need-same-length
 same-length c = search needs
 
 returns : tie.Need-returns
-returns c = λ rs C. c .before .before .vector-of .ensures _ (added-end (c .before .before .before .before .before .before .before .before .before .before .before .before .add-children .ensures) (omega arith) (c .before .before .before .before .before .before .before .before .before .before .before .before .before .before .before .before .before .before .before .before .before .before .before .before .pre .0 .0) rs C)
+returns c =
+    let vector-of = c .before .before .vector-of in
+    let add-children = c .before .before .before .before .before .before .before .before .before .before .before .before .add-children in
+    let given = c .before .before .before .before .before .before .before .before .before .before .before .before .before .before .before .before .before .before .before .before .before .before .before .before .pre in
+    λ rs C. vector-of .ensures _ (added-end (add-children .ensures) (omega arith) (given .0 .0) rs C)
 
 pub children-vector-spec : {M : Type 1} → statement M
 children-vector-spec =

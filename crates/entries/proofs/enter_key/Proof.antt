@@ -44,7 +44,10 @@ add-follow : tie.Need-add-follow
 add-follow c = search needs
 
 follow-requires : tie.Need-follow-requires
-follow-requires c κs = ((c .before .before .before .before .before .before .before .before .before .before .before .before .before .before .pre .0 .0, keyed-head _ (c .before .before .before .before .before .before .before .before .before .before .before .before .before .before .pre .0 .1) (c .before .before .before .before .if1 .left)), c .before .before .before .before .before .before .before .before .before .before .before .before .before .before .pre .1)
+follow-requires c κs =
+    let if1 = c .before .before .before .before .if1 in
+    let given = c .before .before .before .before .before .before .before .before .before .before .before .before .before .before .pre in
+    ((given .0 .0, keyed-head _ (given .0 .1) (if1 .left)), given .1)
 
 add-result : tie.Need-add-result
 add-result c = search needs
@@ -56,7 +59,10 @@ same-length-3 : tie.Need-same-length-3
 same-length-3 c = search needs
 
 same-length-4 : tie.Need-same-length-4
-same-length-4 c = omega (arith, c .before .before .before .before .before .before .follow .kept, length-set (c .before .before .before .before .before .before .before .before .before .before .before .before .before .before .before .before .before .before .before .before .before .args .out .now) (c .before .before .before .before .before .before .before .before .before .before .before .before .before .before .before .before .before .before .before .before .before .args .k) (cell (c .before .before .before .before .before .before .before .before .before .before .before .before .before .before .before .before .before .before .before .before .before .args .small .now) (c .before .before .before .before .before .before .before .before .before .before .before .before .before .before .before .before .before .before .before .before .before .args .k)))
+same-length-4 c =
+    let follow = c .before .before .before .before .before .before .follow in
+    let args = c .before .before .before .before .before .before .before .before .before .before .before .before .before .before .before .before .before .before .before .before .before .args in
+    omega (arith, follow .kept, length-set (args .out .now) (args .k) (cell (args .small .now) (args .k)))
 
 returns-2 : tie.Need-returns-2
 returns-2 c = λ g K. keyed-chain _ K (c .before .before .before .before .before .before .follow .ensures g (keyed-head _ K (c .before .before .before .before .before .before .before .before .before .before .before .if1 .left)))

@@ -28,7 +28,10 @@ loop-holds : tie.Need-loop-holds Inv-loop μ-loop
 loop-holds c = following-start (c .before .before .before .before .before .before .before .before .pre .0) (c .wide .ensures)
 
 rank-requires : tie.Need-rank-requires Inv-loop μ-loop
-rank-requires c κs = ((following-ranked (c .before .before .before .loop .inv) (c .before .before .loop-test .taken) .0, following-ranked (c .before .before .before .loop .inv) (c .before .before .loop-test .taken) .1), following-room (c .before .before .before .loop .inv) (c .before .before .loop-test .taken) .1)
+rank-requires c κs =
+    let loop-test = c .before .before .loop-test in
+    let loop = c .before .before .before .loop in
+    ((following-ranked (loop .inv) (loop-test .taken) .0, following-ranked (loop .inv) (loop-test .taken) .1), following-room (loop .inv) (loop-test .taken) .1)
 
 add-s : tie.Need-add-s Inv-loop μ-loop
 add-s c = omega (arith, following-few (c .before .before .before .before .loop .inv) (c .before .before .before .loop-test .taken) (c .rank .ensures) refl)
@@ -49,10 +52,18 @@ sub-out : tie.Need-sub-out Inv-loop μ-loop
 sub-out c = search needs
 
 add-out : tie.Need-add-out Inv-loop μ-loop
-add-out c = omega (arith, following-room (c .before .before .before .before .before .before .loop .inv) (c .before .before .before .before .before .loop-test .taken), following-few (c .before .before .before .before .before .before .loop .inv) (c .before .before .before .before .before .loop-test .taken) (c .before .before .rank .ensures) (c .wide2 .ensures))
+add-out c =
+    let rank = c .before .before .rank in
+    let loop-test = c .before .before .before .before .before .loop-test in
+    let loop = c .before .before .before .before .before .before .loop in
+    omega (arith, following-room (loop .inv) (loop-test .taken), following-few (loop .inv) (loop-test .taken) (rank .ensures) (c .wide2 .ensures))
 
 cast-out : tie.Need-cast-out Inv-loop μ-loop
-cast-out c = omega (arith, following-room (c .before .before .before .before .before .before .loop .inv) (c .before .before .before .before .before .loop-test .taken), following-few (c .before .before .before .before .before .before .loop .inv) (c .before .before .before .before .before .loop-test .taken) (c .before .before .rank .ensures) (c .wide2 .ensures))
+cast-out c =
+    let rank = c .before .before .rank in
+    let loop-test = c .before .before .before .before .before .loop-test in
+    let loop = c .before .before .before .before .before .before .loop in
+    omega (arith, following-room (loop .inv) (loop-test .taken), following-few (loop .inv) (loop-test .taken) (rank .ensures) (c .wide2 .ensures))
 
 mul-out : tie.Need-mul-out Inv-loop μ-loop
 mul-out c = omega (arith, following-room (c .before .before .before .before .before .before .loop .inv) (c .before .before .before .before .before .loop-test .taken))
@@ -61,22 +72,41 @@ slice-write-out : tie.Need-slice-write-out Inv-loop μ-loop
 slice-write-out c = following-room (c .before .before .before .before .before .before .loop .inv) (c .before .before .before .before .before .loop-test .taken) .2
 
 insert-requires : tie.Need-insert-requires Inv-loop μ-loop
-insert-requires c κs = (following-ranked (c .before .before .before .before .before .before .before .before .loop .inv) (c .before .before .before .before .before .before .before .loop-test .taken), (following-room (c .before .before .before .before .before .before .before .before .loop .inv) (c .before .before .before .before .before .before .before .loop-test .taken) .1, c .before .before .before .before .before .before .before .before .before .before .before .before .before .before .before .before .before .pre .1))
+insert-requires c κs =
+    let loop-test = c .before .before .before .before .before .before .before .loop-test in
+    let loop = c .before .before .before .before .before .before .before .before .loop in
+    let given = c .before .before .before .before .before .before .before .before .before .before .before .before .before .before .before .before .before .pre in
+    (following-ranked (loop .inv) (loop-test .taken), (following-room (loop .inv) (loop-test .taken) .1, given .1))
 
 mul-wide-3 : tie.Need-mul-wide-3 Inv-loop μ-loop
-mul-wide-3 c = omega (arith, following-room (c .before .before .before .before .before .before .before .before .before .before .before .before .before .loop .inv) (c .before .before .before .before .before .before .before .before .before .before .before .before .loop-test .taken))
+mul-wide-3 c =
+    let loop-test = c .before .before .before .before .before .before .before .before .before .before .before .before .loop-test in
+    let loop = c .before .before .before .before .before .before .before .before .before .before .before .before .before .loop in
+    omega (arith, following-room (loop .inv) (loop-test .taken))
 
 shared-slice-read-wide-2 : tie.Need-shared-slice-read-wide-2 Inv-loop μ-loop
-shared-slice-read-wide-2 c = following-room (c .before .before .before .before .before .before .before .before .before .before .before .before .before .before .loop .inv) (c .before .before .before .before .before .before .before .before .before .before .before .before .before .loop-test .taken) .3
+shared-slice-read-wide-2 c =
+    let loop-test = c .before .before .before .before .before .before .before .before .before .before .before .before .before .loop-test in
+    let loop = c .before .before .before .before .before .before .before .before .before .before .before .before .before .before .loop in
+    following-room (loop .inv) (loop-test .taken) .3
 
 wide-requires-3 : tie.Need-wide-requires-3 Inv-loop μ-loop
 wide-requires-3 c κs = search needs
 
 loop-less : tie.Need-loop-less Inv-loop μ-loop
-loop-less c = following-less (c .before .before .before .before .before .before .before .before .before .before .before .before .before .before .before .loop .inv) (c .before .before .before .before .before .before .before .before .before .before .before .before .before .before .loop-test .taken) (c .wide3 .ensures)
+loop-less c =
+    let loop-test = c .before .before .before .before .before .before .before .before .before .before .before .before .before .before .loop-test in
+    let loop = c .before .before .before .before .before .before .before .before .before .before .before .before .before .before .before .loop in
+    following-less (loop .inv) (loop-test .taken) (c .wide3 .ensures)
 
 loop-again : tie.Need-loop-again Inv-loop μ-loop
-loop-again c = following-next (c .before .before .before .before .before .before .before .before .before .before .before .before .before .before .before .loop .inv) (c .before .before .before .before .before .before .before .before .before .before .before .before .before .before .loop-test .taken) (c .before .before .before .before .before .before .before .before .before .before .before .rank .ensures) (c .before .before .before .before .before .before .before .before .before .wide2 .ensures) (c .before .before .before .before .before .before .insert .ensures) (c .wide3 .ensures) (search needs) (search needs)
+loop-again c =
+    let insert = c .before .before .before .before .before .before .insert in
+    let wide2 = c .before .before .before .before .before .before .before .before .before .wide2 in
+    let rank = c .before .before .before .before .before .before .before .before .before .before .before .rank in
+    let loop-test = c .before .before .before .before .before .before .before .before .before .before .before .before .before .before .loop-test in
+    let loop = c .before .before .before .before .before .before .before .before .before .before .before .before .before .before .before .loop in
+    following-next (loop .inv) (loop-test .taken) (rank .ensures) (wide2 .ensures) (insert .ensures) (c .wide3 .ensures) (search needs) (search needs)
 
 same-length : tie.Need-same-length Inv-loop μ-loop
 same-length c = search needs

@@ -16,11 +16,18 @@ abbrev μ-loop : tie.MeasureT-loop
 μ-loop list small start n number₀ left₀ right₀ last t₀ number left right t = n - 1 - t
 
 -- the numbers of a turn
-here : (c : tie.After-wide2 Inv-loop μ-loop) → NextMerge (c .before .before .before .before .before .before .before .before .before .before .before .args .list .now) (c .before .before .before .before .before .before .before .before .before .before .before .args .small .now) (c .before .before .before .before .before .before .before .before .before .before .before .args .start) (c .before .before .before .before .before .before .before .before .before .before .before .args .n) (c .before .before .before .before .before .loop .number) (c .before .before .before .before .before .loop .t) (c .wide2 .result) (c .before .before .wide .result)
+here : (c : tie.After-wide2 Inv-loop μ-loop) →
+    let wide = c .before .before .wide in
+    let loop = c .before .before .before .before .before .loop in
+    let args = c .before .before .before .before .before .before .before .before .before .before .before .args in
+    NextMerge (args .list .now) (args .small .now) (args .start) (args .n) (loop .number) (loop .t) (c .wide2 .result) (wide .result)
 here c = next-merge (c .before .before .before .before .before .loop .inv .numbered) (c .before .before .before .before .loop-test .taken) (c .before .before .wide .ensures) (c .wide2 .ensures)
 
 -- both names of the merge have a number
-named : (c : tie.After-wide2 Inv-loop μ-loop) → (c .wide2 .result < length (c .before .before .before .before .before .loop .number)) × (c .before .before .wide .result < length (c .before .before .before .before .before .loop .number)) × (c .wide2 .result < 1024) × (c .before .before .wide .result < 1024)
+named : (c : tie.After-wide2 Inv-loop μ-loop) →
+    let wide = c .before .before .wide in
+    let loop = c .before .before .before .before .before .loop in
+    (c .wide2 .result < length (loop .number)) × (wide .result < length (loop .number)) × (c .wide2 .result < 1024) × (wide .result < 1024)
 named c =
     let T = here c in
     let a = T .name-a in
@@ -77,7 +84,10 @@ mul-right-2 : tie.Need-mul-right-2 Inv-loop μ-loop
 mul-right-2 c = search needs
 
 slice-write-right : tie.Need-slice-write-right Inv-loop μ-loop
-slice-write-right c = omega (arith, c .before .before .before .before .before .before .before .loop .inv .in-right, c .before .before .before .before .before .before .before .loop .inv .same-right, c .before .before .before .before .before .before .loop-test .taken)
+slice-write-right c =
+    let loop-test = c .before .before .before .before .before .before .loop-test in
+    let loop = c .before .before .before .before .before .before .before .loop in
+    omega (arith, loop .inv .in-right, loop .inv .same-right, loop-test .taken)
 
 add-number : tie.Need-add-number Inv-loop μ-loop
 add-number c = let T = here (c .before .before) in let few = T .few in omega arith
@@ -98,7 +108,12 @@ loop-less : tie.Need-loop-less Inv-loop μ-loop
 loop-less c = search needs
 
 loop-again : tie.Need-loop-again Inv-loop μ-loop
-loop-again c = columns-next (c .before .before .before .before .before .before .before .loop .inv) (c .before .before .before .before .before .before .loop-test .taken) (c .before .before .before .before .wide .ensures) (c .before .before .wide2 .ensures)
+loop-again c =
+    let wide2 = c .before .before .wide2 in
+    let wide = c .before .before .before .before .wide in
+    let loop-test = c .before .before .before .before .before .before .loop-test in
+    let loop = c .before .before .before .before .before .before .before .loop in
+    columns-next (loop .inv) (loop-test .taken) (wide .ensures) (wide2 .ensures)
 
 same-length : tie.Need-same-length Inv-loop μ-loop
 same-length c = c .before .loop .inv .numbered .same-number

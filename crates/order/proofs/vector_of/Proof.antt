@@ -45,13 +45,23 @@ slice-aggregate-enter-key-4 : tie.Need-slice-aggregate-enter-key-4 Inv-loop μ-l
 slice-aggregate-enter-key-4 c = search needs
 
 enter-key-requires : tie.Need-enter-key-requires Inv-loop μ-loop
-enter-key-requires c κs = (some-key (c .before .before .before .before .before .before .loop .inv) (c .before .before .before .before .before .loop-test .taken) (c .before .before .before .before .before .before .before .before .before .before .before .before .before .before .before .before .before .pre .0), (c .before .before .before .before .before .before .before .before .before .before .before .raise-blocks .ensures, c .before .before .before .before .before .before .before .before .raise-names .ensures))
+enter-key-requires c κs =
+    let loop-test = c .before .before .before .before .before .loop-test in
+    let loop = c .before .before .before .before .before .before .loop in
+    let raise-names = c .before .before .before .before .before .before .before .before .raise-names in
+    let raise-blocks = c .before .before .before .before .before .before .before .before .before .before .before .raise-blocks in
+    let given = c .before .before .before .before .before .before .before .before .before .before .before .before .before .before .before .before .before .pre in
+    (some-key (loop .inv) (loop-test .taken) (given .0), (raise-blocks .ensures, raise-names .ensures))
 
 loop-less : tie.Need-loop-less Inv-loop μ-loop
 loop-less c = search needs
 
 loop-again : tie.Need-loop-again Inv-loop μ-loop
-loop-again c = filled-next (c .before .before .before .before .before .before .before .before .before .before .before .loop .inv) (c .before .before .before .before .before .before .before .before .before .before .loop-test .taken) (c .before .before .before .before .enter-key .ensures) (search needs)
+loop-again c =
+    let enter-key = c .before .before .before .before .enter-key in
+    let loop-test = c .before .before .before .before .before .before .before .before .before .before .loop-test in
+    let loop = c .before .before .before .before .before .before .before .before .before .before .before .loop in
+    filled-next (loop .inv) (loop-test .taken) (enter-key .ensures) (search needs)
 
 slice-write-out : tie.Need-slice-write-out Inv-loop μ-loop
 slice-write-out c = search needs

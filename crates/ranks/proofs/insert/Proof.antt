@@ -6,10 +6,14 @@ use Rattle.ranks.proofs.insert.Statement.{statement}
 use Rattle.ranks.proofs.insert.Tie as tie
 
 add-to-blocks-requires : tie.Need-add-to-blocks-requires
-add-to-blocks-requires c κs = ((c .before .before .before .before .before .pre .0 .1 .blocks-long, omega (arith, c .before .before .before .before .before .pre .1 .0)), (block-le (c .before .before .before .before .before .pre .0 .1), c .before .before .before .before .before .pre .1 .1 .0))
+add-to-blocks-requires c κs =
+    let given = c .before .before .before .before .before .pre in
+    ((given .0 .1 .blocks-long, omega (arith, given .1 .0)), (block-le (given .0 .1), given .1 .1 .0))
 
 add-to-names-requires : tie.Need-add-to-names-requires
-add-to-names-requires c κs = ((c .before .before .before .before .before .before .before .before .before .pre .0 .1 .names-long, c .before .before .before .before .before .before .before .before .before .pre .1 .0), (name-le (c .before .before .before .before .before .before .before .before .before .pre .0 .1), c .before .before .before .before .before .before .before .before .before .pre .1 .1 .1))
+add-to-names-requires c κs =
+    let given = c .before .before .before .before .before .before .before .before .before .pre in
+    ((given .0 .1 .names-long, given .1 .0), (name-le (given .0 .1), given .1 .1 .1))
 
 same-length : tie.Need-same-length
 same-length c = search needs
@@ -18,7 +22,11 @@ same-length-2 : tie.Need-same-length-2
 same-length-2 c = search needs
 
 returns : tie.Need-returns
-returns c = λ f R e. ranks-also R e (c .before .before .before .before .before .before .before .before .before .before .before .before .pre .1 .0) (c .before .before .before .before .before .before .add-to-blocks .ensures) (c .before .before .add-to-names .ensures)
+returns c =
+    let add-to-names = c .before .before .add-to-names in
+    let add-to-blocks = c .before .before .before .before .before .before .add-to-blocks in
+    let given = c .before .before .before .before .before .before .before .before .before .before .before .before .pre in
+    λ f R e. ranks-also R e (given .1 .0) (add-to-blocks .ensures) (add-to-names .ensures)
 
 pub insert-spec : {M : Type 1} → statement M
 insert-spec =

@@ -35,7 +35,11 @@ slice-read-blocks : tie.Need-slice-read-blocks Inv-loop μ-loop
 slice-read-blocks c = search needs
 
 add-blocks-2 : tie.Need-add-blocks-2 Inv-loop μ-loop
-add-blocks-2 c = record { fits = added-fits (c .before .before .before .loop .inv .1) (c .before .before .before .before .pre .1 .1) (omega (arith, c .before .before .before .before .pre .0 .1, c .before .before .loop-test .taken)) (omega (arith, c .before .before .before .before .pre .1 .0 (c .before .before .before .loop .k) (c .before .before .loop-test .taken))) }
+add-blocks-2 c =
+    let loop-test = c .before .before .loop-test in
+    let loop = c .before .before .before .loop in
+    let given = c .before .before .before .before .pre in
+    record { fits = added-fits (loop .inv .1) (given .1 .1) (omega (arith, given .0 .1, loop-test .taken)) (omega (arith, given .1 .0 (loop .k) (loop-test .taken))) }
 
 slice-write-blocks : tie.Need-slice-write-blocks Inv-loop μ-loop
 slice-write-blocks c = search needs
@@ -47,7 +51,12 @@ loop-less : tie.Need-loop-less Inv-loop μ-loop
 loop-less c = search needs
 
 loop-again : tie.Need-loop-again Inv-loop μ-loop
-loop-again c = (omega (arith, c .before .before .loop-test .taken), added-next (c .before .before .before .loop .inv .1) (omega (arith, c .before .before .before .before .pre .0 .0, c .before .before .loop-test .taken)) (step-is (c .before .before .before .before .args .w) (c .before .before .before .loop .k) (c .before .before .before .before .pre .1 .1) (omega (arith, c .before .before .before .before .pre .0 .1, c .before .before .loop-test .taken)) (omega (arith, c .before .before .before .before .pre .0 .1))) refl)
+loop-again c =
+    let loop-test = c .before .before .loop-test in
+    let loop = c .before .before .before .loop in
+    let args = c .before .before .before .before .args in
+    let given = c .before .before .before .before .pre in
+    (omega (arith, loop-test .taken), added-next (loop .inv .1) (omega (arith, given .0 .0, loop-test .taken)) (step-is (args .w) (loop .k) (given .1 .1) (omega (arith, given .0 .1, loop-test .taken)) (omega (arith, given .0 .1))) refl)
 
 same-length : tie.Need-same-length Inv-loop μ-loop
 same-length c = c .before .loop .inv .1 .same

@@ -34,7 +34,12 @@ slice-read-names : tie.Need-slice-read-names Inv-loop μ-loop
 slice-read-names c = search needs
 
 add-names-3 : tie.Need-add-names-3 Inv-loop μ-loop
-add-names-3 c = record { fits = added-fits (c .before .before .before .loop .inv .1) (c .before .before .before .before .pre .1 .1) (omega (arith, c .before .before .loop-test .taken)) (omega (arith, c .before .before .before .before .pre .1 .0 (64 * (c .before .before .before .before .args .i / 64) + c .before .before .before .loop .k) (omega (arith, c .before .before .before .before .pre .0 .1, c .before .before .loop-test .taken)))) }
+add-names-3 c =
+    let loop-test = c .before .before .loop-test in
+    let loop = c .before .before .before .loop in
+    let args = c .before .before .before .before .args in
+    let given = c .before .before .before .before .pre in
+    record { fits = added-fits (loop .inv .1) (given .1 .1) (omega (arith, loop-test .taken)) (omega (arith, given .1 .0 (64 * (args .i / 64) + loop .k) (omega (arith, given .0 .1, loop-test .taken)))) }
 
 slice-write-names : tie.Need-slice-write-names Inv-loop μ-loop
 slice-write-names c = search needs
@@ -46,7 +51,12 @@ loop-less : tie.Need-loop-less Inv-loop μ-loop
 loop-less c = search needs
 
 loop-again : tie.Need-loop-again Inv-loop μ-loop
-loop-again c = (omega (arith, c .before .before .loop-test .taken), added-next (c .before .before .before .loop .inv .1) (omega (arith, c .before .before .before .before .pre .0 .0, c .before .before .before .before .pre .0 .1, c .before .before .loop-test .taken)) (step-is (c .before .before .before .before .args .i) (64 * (c .before .before .before .before .args .i / 64) + c .before .before .before .loop .k) (c .before .before .before .before .pre .1 .1) (omega (arith, c .before .before .loop-test .taken)) (omega arith)) (omega arith))
+loop-again c =
+    let loop-test = c .before .before .loop-test in
+    let loop = c .before .before .before .loop in
+    let args = c .before .before .before .before .args in
+    let given = c .before .before .before .before .pre in
+    (omega (arith, loop-test .taken), added-next (loop .inv .1) (omega (arith, given .0 .0, given .0 .1, loop-test .taken)) (step-is (args .i) (64 * (args .i / 64) + loop .k) (given .1 .1) (omega (arith, loop-test .taken)) (omega arith)) (omega arith))
 
 same-length : tie.Need-same-length Inv-loop μ-loop
 same-length c = c .before .loop .inv .1 .same

@@ -1,5 +1,5 @@
 -- The rows of a table in its numbers.
--- Main definition: rowAt. Main results: rows-count, rows-drop, rows-take.
+-- Main definition: rowAt. Main results: row-is, rows-drop, rows-take.
 use mathlib.Core.Path.{_≡_, refl, sym, ap, _∙_}
 use mathlib.Core.List.{List, [], _∷_, _++_}
 use Prim.Native.Nat.{ℕ, zero, suc, _+_, _*_, _<_}
@@ -7,19 +7,11 @@ use native.Mathlib.Omega.{arith}
 use lib.ListN.{length, getD, take, drop}
 use lib.Seq.{drop-cons, take-suc}
 use Rattle.rules.specs.Table.{Row, rowsOf}
+use Rattle.table_laws.specs.Flat.{rowsOf-length}
 
 -- row t of the numbers
 unfoldable pub rowAt : List ℕ → ℕ → Row
 rowAt xs t = (getD xs (3 * t) 0, getD xs (3 * t + 1) 0, getD xs (3 * t + 2) 0)
-
-pub rows-count : (k : ℕ) (xs : List ℕ) → length xs ≡ 3 * k → length (rowsOf xs) ≡ k
-unfolding rowsOf
-rows-count zero [] e = refl
-rows-count zero (x ∷ xs) e = absurd (omega arith)
-rows-count (suc k) [] e = absurd (omega arith)
-rows-count (suc k) (x ∷ []) e = absurd (omega arith)
-rows-count (suc k) (x ∷ y ∷ []) e = absurd (omega arith)
-rows-count (suc k) (x ∷ y ∷ z ∷ xs) e = ap suc (rows-count k xs (omega arith))
 
 three-more : (x y z : ℕ) (xs : List ℕ) (i : ℕ) → getD (x ∷ y ∷ z ∷ xs) (3 + i) 0 ≡ getD xs i 0
 three-more x y z xs i = let e : 3 + i ≡ suc (suc (suc i)) = omega arith in rw e
@@ -48,10 +40,10 @@ row-is (suc k) (x ∷ y ∷ z ∷ xs) (suc t) e h = row-is k xs t (omega arith) 
 
 pub rows-drop : (k : ℕ) (xs : List ℕ) (t : ℕ) → length xs ≡ 3 * k → t < k → drop t (rowsOf xs) ≡ rowAt xs t ∷ drop (suc t) (rowsOf xs)
 rows-drop k xs t e h =
-    let l = rows-count k xs e in
+    let l = rowsOf-length k xs e in
     drop-cons (rowsOf xs) t (0, 0, 0) (omega arith) ∙ ap (λ (r : Row). r ∷ drop (suc t) (rowsOf xs)) (row-is k xs t e h)
 
 pub rows-take : (k : ℕ) (xs : List ℕ) (t : ℕ) → length xs ≡ 3 * k → t < k → take (suc t) (rowsOf xs) ≡ take t (rowsOf xs) ++ (rowAt xs t ∷ [])
 rows-take k xs t e h =
-    let l = rows-count k xs e in
+    let l = rowsOf-length k xs e in
     take-suc (rowsOf xs) t (0, 0, 0) (omega arith) ∙ ap (λ (r : Row). take t (rowsOf xs) ++ (r ∷ [])) (row-is k xs t e h)
