@@ -19,6 +19,7 @@ use Rattle.rows.specs.Larger.{Pair, lesser, top-has, pair-has, pair-above, top-
 use Rattle.rows.specs.Count.{last-or-before, count, count-pos, count-without}
 use Rattle.rows.specs.Forest.{namedAlso, namedIn, RowOk, Forest, forest-start, forest-next, forest-end, named-snoc, nodes-snoc, named-no}
 use Rattle.rows.specs.Chains.{lowest, chain, Smaller, In, Bounded, in-left, chain-own, chain-other, chain-in, lowest-starts}
+use Rattle.chains.specs.Key.{noKey}
 use Rattle.chains.specs.Walk.{cell, ChainIs, last-cases, chain-kept, chain-more}
 use Rattle.chains.specs.Chain.{one-chain, smaller-cong, chain-of-left, chain-of-right}
 use Rattle.chains.specs.Drawn.{Drawn}
@@ -34,9 +35,9 @@ nodes rs = nodesOf rs leaf
 -- its name, which is not yet in a chain, leads nowhere
 pub record Tells (k : ℕ) (t : Tree) (names lows small next last : List ℕ) : Type 0 where
   pub name : cell names k ≡ least t
-  pub key : cell lows k ≡ lowest 1024 t
+  pub key : cell lows k ≡ lowest noKey t
   pub smaller : Smaller (cell small) t
-  pub chained : (x : ℕ) → has t x ≡ true → ChainIs (cell next) (cell last) x (chain 1024 t x)
+  pub chained : (x : ℕ) → has t x ≡ true → ChainIs (cell next) (cell last) x (chain noKey t x)
   pub loose : 1 ≤ least t → cell next (least t) ≡ 0
 
 -- the rows are added: the arrays tell of each node that no row has taken as a child
@@ -64,7 +65,7 @@ pub record Adds (n : ℕ) (rs : List Row) (p l r a i : ℕ) (names lows small ne
 
 -- no rows: every node is a leaf
 pub built-start : {n : ℕ} {names lows small next last : List ℕ} → n ≤ 1024 → 2 * n ≤ length names → 2 * n ≤ length lows → n ≤ length small → n ≤ length next → n ≤ length last
-    → ((k : ℕ) → k < n → cell names k ≡ k) → ((k : ℕ) → k < n → cell lows k ≡ 1024) → ((k : ℕ) → k < n → cell next k ≡ 0) → ((k : ℕ) → k < n → cell last k ≡ 0) → Built n [] names lows small next last
+    → ((k : ℕ) → k < n → cell names k ≡ k) → ((k : ℕ) → k < n → cell lows k ≡ noKey) → ((k : ℕ) → k < n → cell next k ≡ 0) → ((k : ℕ) → k < n → cell last k ≡ 0) → Built n [] names lows small next last
 unfolding namedIn nodesOf least lowest Smaller ChainIs chain has
 built-start {n} few a b c d e named keyed ends none = record {
   forest = forest-start n;
@@ -129,7 +130,7 @@ module _ {n : ℕ} {rs : List Row} {p l r a i : ℕ} {names lows small next last
   S = min (least L′) (least R′)
 
   abbrev K : ℕ
-  K = min I (min (lowest 1024 L′) (lowest 1024 R′))
+  K = min I (min (lowest noKey L′) (lowest noKey R′))
 
   left : Tells l L′ (A .before) lows small next last
   left = B .free l (R .first) (R .first-new)
@@ -156,7 +157,7 @@ module _ {n : ℕ} {rs : List Row} {p l r a i : ℕ} {names lows small next last
   parts-below : (x : ℕ) → has (node L′ R′) x ≡ true → x < n
   parts-below x e = ⊎-elim (F .below l x (R .first)) (F .below r x (R .second)) (has-cases L′ R′ x e)
 
-  parts-bounded : Bounded 1024 (node L′ R′)
+  parts-bounded : Bounded noKey (node L′ R′)
   parts-bounded x e = omega (arith, parts-below x e, B .few)
 
   I-below : I < n
@@ -169,25 +170,25 @@ module _ {n : ℕ} {rs : List Row} {p l r a i : ℕ} {names lows small next last
   K-has : has (node L′ R′) K ≡ true
   unfolding lowest In
   K-has =
-      let s = lowest-starts 1024 (node L′ R′) parts-once parts-bounded (omega (arith, I-below, B .few)) in
-      pair-has (node L′ R′) K (chain-in 1024 (node L′ R′) K K (rw (s .1) (inl refl)))
+      let s = lowest-starts noKey (node L′ R′) parts-once parts-bounded (omega (arith, I-below, B .few)) in
+      pair-has (node L′ R′) K (chain-in noKey (node L′ R′) K K (rw (s .1) (inl refl)))
 
   K-below : K < n
   K-below = parts-below K K-has
 
   -- the chain of a leaf of the new node, before
   old-chain : (x : ℕ) → has (node L′ R′) x ≡ true
-      → (c : List ℕ) × (chain 1024 L′ x ++ chain 1024 R′ x ≡ c) × ChainIs (cell next) (cell last) x c × ((y : ℕ) → In y c → Pair L′ y ⊎ Pair R′ y)
+      → (c : List ℕ) × (chain noKey L′ x ++ chain noKey R′ x ≡ c) × ChainIs (cell next) (cell last) x c × ((y : ℕ) → In y c → Pair L′ y ⊎ Pair R′ y)
   old-chain x e = ⊎-elim
-      (λ h. (chain 1024 L′ x, chain-of-left 1024 L′ R′ parts-once parts-bounded x h, left .chained x h, λ y i. inl (chain-in 1024 L′ x y i)))
-      (λ h. (chain 1024 R′ x, chain-of-right 1024 L′ R′ parts-once parts-bounded x h, right .chained x h, λ y i. inr (chain-in 1024 R′ x y i)))
+      (λ h. (chain noKey L′ x, chain-of-left noKey L′ R′ parts-once parts-bounded x h, left .chained x h, λ y i. inl (chain-in noKey L′ x y i)))
+      (λ h. (chain noKey R′ x, chain-of-right noKey L′ R′ parts-once parts-bounded x h, right .chained x h, λ y i. inr (chain-in noKey R′ x y i)))
       (has-cases L′ R′ x e)
 
   abbrev J : ℕ
   J = cell last K
 
   -- the last name of the key's chain: none, or a larger name of the parts
-  J-cases : (J ≡ 0) ⊎ ((1 ≤ J) × (Pair L′ J ⊎ Pair R′ J) × In J (chain 1024 L′ K ++ chain 1024 R′ K))
+  J-cases : (J ≡ 0) ⊎ ((1 ≤ J) × (Pair L′ J ⊎ Pair R′ J) × In J (chain noKey L′ K ++ chain noKey R′ K))
   J-cases =
       let o = old-chain K K-has in
       ⊎-elim (λ e. inl e) (λ q. inr (q .0, o .3 J (q .1), rw (o .1) (q .1))) (last-cases (cell next) (cell last) K (o .0) (o .2))
@@ -241,37 +242,37 @@ module _ {n : ℕ} {rs : List Row} {p l r a i : ℕ} {names lows small next last
   pair-pos : (y : ℕ) → Pair L′ y ⊎ Pair R′ y → 1 ≤ y
   pair-pos y q = ⊎-elim (λ a. omega (arith, pair-above L′ y (F .once l (R .first)) a)) (λ a. omega (arith, pair-above R′ y (F .once r (R .second)) a)) q
 
-  in-whole : (k y : ℕ) → In y (chain 1024 L′ k ++ chain 1024 R′ k) → In y (chain 1024 (node L′ R′) k)
+  in-whole : (k y : ℕ) → In y (chain noKey L′ k ++ chain noKey R′ k) → In y (chain noKey (node L′ R′) k)
   unfolding chain
-  in-whole k y i = in-left y (chain 1024 L′ k ++ chain 1024 R′ k) (cond (eqb k (lowest 1024 (node L′ R′))) (I ∷ []) []) i
+  in-whole k y i = in-left y (chain noKey L′ k ++ chain noKey R′ k) (cond (eqb k (lowest noKey (node L′ R′))) (I ∷ []) []) i
 
   -- the chains of the new node: that of its key is longer by its own pair
-  key-chain : ChainIs (cell next′) (cell last′) K (chain 1024 (node L′ R′) K)
+  key-chain : ChainIs (cell next′) (cell last′) K (chain noKey (node L′ R′) K)
   unfolding lowest
   key-chain =
       let o = old-chain K K-has in
-      rw (chain-own 1024 L′ R′ K refl, o .1)
+      rw (chain-own noKey L′ R′ K refl, o .1)
       (chain-more (cell next) (cell last) (cell next′) (cell last′) K (o .0) I (o .2) I-pos last-new next-new (λ h. next-last)
       (λ y i. next-other y))
 
-  other-chain : (x : ℕ) → has (node L′ R′) x ≡ true → x ≢ K → ChainIs (cell next′) (cell last′) x (chain 1024 (node L′ R′) x)
+  other-chain : (x : ℕ) → has (node L′ R′) x ≡ true → x ≢ K → ChainIs (cell next′) (cell last′) x (chain noKey (node L′ R′) x)
   unfolding lowest
   other-chain x e d =
       let o = old-chain x e in
-      rw (chain-other 1024 L′ R′ x d, o .1)
+      rw (chain-other noKey L′ R′ x d, o .1)
       (chain-kept (cell next) (cell last) (cell next′) (cell last′) x (o .0) (last-other x d)
       (λ y i. next-other y (not-last (o .0) (o .1) (o .3) y i)) (o .2))
     where
       -- the last name of the key's chain is in no other
-      not-last : (c : List ℕ) → chain 1024 L′ x ++ chain 1024 R′ x ≡ c → ((y : ℕ) → In y c → Pair L′ y ⊎ Pair R′ y) → (y : ℕ) → In y c → y ≢ J
+      not-last : (c : List ℕ) → chain noKey L′ x ++ chain noKey R′ x ≡ c → ((y : ℕ) → In y c → Pair L′ y ⊎ Pair R′ y) → (y : ℕ) → In y c → y ≢ J
       not-last c f g y i q = ⊎-elim
           (λ z. omega (arith, pair-pos y (g y i)))
-          (λ w. d (one-chain 1024 (node L′ R′) x K J parts-once (in-whole x J (rw f (rw q at i))) (in-whole K J (w .2)))) J-cases
+          (λ w. d (one-chain noKey (node L′ R′) x K J parts-once (in-whole x J (rw f (rw q at i))) (in-whole K J (w .2)))) J-cases
 
-  new-chain : (x : ℕ) → has (node L′ R′) x ≡ true → ChainIs (cell next′) (cell last′) x (chain 1024 (node L′ R′) x)
+  new-chain : (x : ℕ) → has (node L′ R′) x ≡ true → ChainIs (cell next′) (cell last′) x (chain noKey (node L′ R′) x)
   new-chain x e = go (eqb x K) refl
     where
-      go : (b : Bool) → eqb x K ≡ b → ChainIs (cell next′) (cell last′) x (chain 1024 (node L′ R′) x)
+      go : (b : Bool) → eqb x K ≡ b → ChainIs (cell next′) (cell last′) x (chain noKey (node L′ R′) x)
       go true q = rw (eqb-true x K q) key-chain
       go false q = other-chain x e (eqb-false x K q)
 
@@ -314,7 +315,7 @@ module _ {n : ℕ} {rs : List Row} {p l r a i : ℕ} {names lows small next last
         name = getD-set-other names p k S 0 (omega arith) ∙ A .others k f g ∙ T .name;
         key = getD-set-other lows p k K 0 (omega arith) ∙ T .key;
         smaller = smaller-cong (cell small) (cell small′) (nodes rs k) (λ x a. small-other x (apart x (pair-has (nodes rs k) x a) I (top-has L′ R′))) (T .smaller);
-        chained = λ x q. chain-kept (cell next) (cell last) (cell next′) (cell last′) x (chain 1024 (nodes rs k) x) (last-other x (apart x q K K-has))
+        chained = λ x q. chain-kept (cell next) (cell last) (cell next′) (cell last′) x (chain noKey (nodes rs k) x) (last-other x (apart x q K K-has))
             (λ y i. next-other y (not-last y (in-tree x y i) (positive x y i))) (T .chained x q);
         loose = λ a. next-other (least (nodes rs k)) (not-last (least (nodes rs k)) (least-has (nodes rs k)) a) ∙ T .loose a;
       }
@@ -324,11 +325,11 @@ module _ {n : ℕ} {rs : List Row} {p l r a i : ℕ} {names lows small next last
           (λ d. f (F .apart k l z h (R .first) e (R .first-new) (rw q at a) d))
           (λ d. g (F .apart k r z h (R .second) e (R .second-new) (rw q at a) d)) (has-cases L′ R′ z b)
 
-      in-tree : (x y : ℕ) → In y (chain 1024 (nodes rs k) x) → has (nodes rs k) y ≡ true
-      in-tree x y i = pair-has (nodes rs k) y (chain-in 1024 (nodes rs k) x y i)
+      in-tree : (x y : ℕ) → In y (chain noKey (nodes rs k) x) → has (nodes rs k) y ≡ true
+      in-tree x y i = pair-has (nodes rs k) y (chain-in noKey (nodes rs k) x y i)
 
-      positive : (x y : ℕ) → In y (chain 1024 (nodes rs k) x) → 1 ≤ y
-      positive x y i = omega (arith, pair-above (nodes rs k) y (F .once k h) (chain-in 1024 (nodes rs k) x y i))
+      positive : (x y : ℕ) → In y (chain noKey (nodes rs k) x) → 1 ≤ y
+      positive x y i = omega (arith, pair-above (nodes rs k) y (F .once k h) (chain-in noKey (nodes rs k) x y i))
 
       not-last : (y : ℕ) → has (nodes rs k) y ≡ true → 1 ≤ y → y ≢ J
       not-last y a b q = ⊎-elim (λ z. omega arith)
@@ -382,7 +383,7 @@ module _ {n : ℕ} {rs : List Row} {p l r a i : ℕ} {names lows small next last
   -- k is the key of the row's pair, and j the last name with that key
   module _ {u v w k : ℕ} (eu : u ≡ cell lows l) (ev : v ≡ cell lows r) (ew : w ≡ min i u) (ek : k ≡ min w v) where
     is-key : k ≡ K
-    is-key = ek ∙ ap₂ min (ew ∙ ap₂ min is-larger (eu ∙ left .key)) (ev ∙ right .key) ∙ least-of-three I (lowest 1024 L′) (lowest 1024 R′)
+    is-key = ek ∙ ap₂ min (ew ∙ ap₂ min is-larger (eu ∙ left .key)) (ev ∙ right .key) ∙ least-of-three I (lowest noKey L′) (lowest noKey R′)
 
     pub adds-room : (a < 1024) × (i < 1024) × (k < 1024) × (i < length small) × (k < length last)
     adds-room =

@@ -5,13 +5,14 @@ use Prim.Native.Nat.{ℕ, _≤_, _<_}
 use lib.ListN.{length}
 use Rattle.rules.specs.Tree.{Tree, LeavesBelow}
 use Rattle.rows.specs.Chains.{chain, Smaller}
+use Rattle.chains.specs.Key.{noKey}
 use Rattle.chains.specs.Walk.{cell, ChainIs}
 
 -- the arrays of a tree whose leaves are 0 to n-1: the smaller name of each pair by its larger name, and the chains
 pub record Drawn (n : ℕ) (t : Tree) (small next last : List ℕ) : Type 0 where
   pub below : LeavesBelow n t
   pub smaller : Smaller (cell small) t
-  pub chained : (k : ℕ) → k < n → ChainIs (cell next) (cell last) k (chain 1024 t k)
+  pub chained : (k : ℕ) → k < n → ChainIs (cell next) (cell last) k (chain noKey t k)
   pub some-leaf : 1 ≤ n
   pub few : n ≤ 1024
   pub small-room : n ≤ length small

@@ -1,3 +1,4 @@
+pub mod Key
 pub mod Walk
 pub mod Chain
 pub mod Drawn

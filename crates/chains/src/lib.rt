@@ -12,8 +12,11 @@ ghost use Rattle.rules.specs.Table.{Row};
 ghost use Rattle.chains.specs.Built.{Built, Adds};
 use numbers::wide;
 
+/// The key of a node without a pair: above every name.
+pub const NO_KEY: u16 = 1024;
+
 /// Adds the row of node p with the children l and r to the arrays. a and i are the smaller and the larger of the children's names; names and
-/// lows have the name and the key of each node. A leaf has no pair, and its key is 1024. The pair goes to the end of its key's chain, and
+/// lows have the name and the key of each node. A leaf has no pair, and its key is NO_KEY. The pair goes to the end of its key's chain, and
 /// next[i] is 0 from the start; next[0] belongs to no pair.
 pub fn add_pair(
     names: &mut [u16],

@@ -45,7 +45,7 @@ pub fn children_vector(n: usize, left: &[u16], right: &[u16], vector: &mut [u16]
     ensures { λ _. ⌜ ((rs : List Row) → Children n (now (left .entry)) (now (right .entry)) rs → now (vector .exit) ≡ vectorOf (tableTree n rs) ++ drop n (now (vector .entry))) ⌝ }
 {
     let mut names = [0u16; 2048];
-    let mut lows = [1024u16; 2048];
+    let mut lows = [chains::NO_KEY; 2048];
     let mut small = [0u16; 1024];
     let mut next = [0u16; 1024];
     let mut last = [0u16; 1024];

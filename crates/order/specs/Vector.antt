@@ -15,6 +15,7 @@ use Rattle.rows.specs.Larger.{Pair, pair-has, pair-of}
 use Rattle.clades.specs.Size.{size-below}
 use Rattle.rows.specs.Chains.{chain, falling, mergesOf, In, Apart, Bounded, chain-starts, chain-none, falling-in, in-falling}
 use Rattle.rows.specs.Falls.{order-falls, falling-apart}
+use Rattle.chains.specs.Key.{noKey}
 use Rattle.chains.specs.Walk.{cell}
 use Rattle.chains.specs.Drawn.{Drawn}
 use Rattle.chains.specs.Chain.{chain-short, falling-high, smaller-less}
@@ -23,18 +24,18 @@ use Rattle.entries.specs.Keyed.{Keyed}
 
 -- what the vector of a tree is made from
 abbrev pub madeFrom : ℕ → List ℕ → Tree → List ℕ → MadeFrom
-madeFrom n small t old = record { leaves = n; small = small; chains = chain 1024 t; old = old }
+madeFrom n small t old = record { leaves = n; small = small; chains = chain noKey t; old = old }
 
 module _ {n : ℕ} {t : Tree} {small next last : List ℕ} (D : Drawn n t small next last) where
   inside : (x : ℕ) → has t x ≡ true → x < n
   inside x e = ltb-true x n (sym (D .below .all x) ∙ e)
 
-  bounded : Bounded 1024 t
+  bounded : Bounded noKey t
   bounded x e = omega (arith, inside x e, D .few)
 
   -- every key is a leaf
-  all-keys : falling (chain 1024 t) 1024 ≡ falling (chain 1024 t) n
-  all-keys = falling-high (chain 1024 t) n 1024 (λ k h. chain-none 1024 t k (D .below .once) bounded (λ p. omega (arith, inside k (pair-has t k p)))) (D .few)
+  all-keys : falling (chain noKey t) noKey ≡ falling (chain noKey t) n
+  all-keys = falling-high (chain noKey t) n noKey (λ k h. chain-none noKey t k (D .below .once) bounded (λ p. omega (arith, inside k (pair-has t k p)))) (D .few)
 
   -- every leaf but 0 is a larger name
   pair-there : (x : ℕ) → 1 ≤ x → x < n → Pair t x
@@ -48,23 +49,23 @@ module _ {n : ℕ} {t : Tree} {small next last : List ℕ} (D : Drawn n t small 
     few = D .few;
     small-room = D .small-room;
     out-room = h;
-    starts = λ k. chain-starts 1024 t k (D .below .once) bounded;
-    short = λ k. omega (arith, chain-short 1024 t k, size-below n t (D .below), D .few);
-    named = λ x i. let p = in-falling 1024 t x (rw (sym all-keys) at i) in (smaller-less (cell small) t x (D .below .once) (D .smaller) p, inside x (pair-has t x p));
-    apart = subst Apart all-keys (falling-apart 1024 t (D .below .once) bounded);
-    every = λ x a b. subst (In x) all-keys (falling-in 1024 t x bounded (pair-there x a b));
+    starts = λ k. chain-starts noKey t k (D .below .once) bounded;
+    short = λ k. omega (arith, chain-short noKey t k, size-below n t (D .below), D .few);
+    named = λ x i. let p = in-falling noKey t x (rw (sym all-keys) at i) in (smaller-less (cell small) t x (D .below .once) (D .smaller) p, inside x (pair-has t x p));
+    apart = subst Apart all-keys (falling-apart noKey t (D .below .once) bounded);
+    every = λ x a b. subst (In x) all-keys (falling-in noKey t x bounded (pair-there x a b));
   }
 
   pub holding : (old : List ℕ) → Holding (madeFrom n small t old) next last
   holding old = record { chained = D .chained; next-there = D .next-room; last-there = D .last-room }
 
   -- the entries of the merges in their order are the tree's vector
-  pub vector-is : (old : List ℕ) → listed n (entryAt (mergesOf (cell small) (falling (chain 1024 t) n))) ++ drop n old ≡ vectorOf t ++ drop n old
+  pub vector-is : (old : List ℕ) → listed n (entryAt (mergesOf (cell small) (falling (chain noKey t) n))) ++ drop n old ≡ vectorOf t ++ drop n old
   unfolding vectorOf
   vector-is old =
       ap (λ (l : List ℕ). l ++ drop n old)
       (ap₂ (λ (k : ℕ) (ms : List Merge). listed k (entryAt ms)) (sym (size-below n t (D .below)))
-      (ap (mergesOf (cell small)) (sym all-keys) ∙ sym (order-falls 1024 t (cell small) (D .below .once) bounded (D .smaller))))
+      (ap (mergesOf (cell small)) (sym all-keys) ∙ sym (order-falls noKey t (cell small) (D .below .once) bounded (D .smaller))))
 
 -- whatever tree the arrays draw, the chains of all keys from k on have their entries
 pub record Filled (n : ℕ) (small next last out₀ blocks names out : List ℕ) (keys k : ℕ) : Type 0 where

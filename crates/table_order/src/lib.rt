@@ -12,7 +12,7 @@ pub fn table_vector(n: usize, rows: &[u16], vector: &mut [u16]) -> Found
     ensures { λ r. ⌜ Told n (now (rows .entry)) (now (vector .entry)) (now (vector .exit)) r ⌝ }
 {
     let mut names = [0u16; 2048];
-    let mut lows = [1024u16; 2048];
+    let mut lows = [chains::NO_KEY; 2048];
     let mut small = [0u16; 1024];
     let mut next = [0u16; 1024];
     let mut last = [0u16; 1024];
