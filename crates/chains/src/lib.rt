@@ -31,7 +31,8 @@ pub fn add_pair(
     i: usize,
 )
     requires { ⌜ ((n : ℕ) × (rs : List Row) × Adds n rs p l r a i (now names) (now lows) (now small) (now next) (now last)) ⌝ }
-    ensures { λ _. ⌜ ((n : ℕ) (rs : List Row) → Adds n rs p l r a i (now (names .entry)) (now (lows .entry)) (now (small .entry)) (now (next .entry)) (now (last .entry)) → Built n (rs ++ ((l, r, p) ∷ [])) (now (names .exit)) (now (lows .exit)) (now (small .exit)) (now (next .exit)) (now (last .exit))) ⌝ }
+    ensures { λ _. ⌜ ((n : ℕ) (rs : List Row) → Adds n rs p l r a i (now (names .entry)) (now (lows .entry)) (now (small .entry)) (now (next .entry)) (now (last .entry))
+        → Built n (rs ++ ((l, r, p) ∷ [])) (now (names .exit)) (now (lows .exit)) (now (small .exit)) (now (next .exit)) (now (last .exit))) ⌝ }
     ensures { λ _. ⌜ now (names .exit) ≡ set (now (names .entry)) p a ⌝ }
 {
     let k = numbers::lesser(numbers::lesser(i, wide(lows[l])), wide(lows[r]));

@@ -22,7 +22,8 @@ fn follow(
 )
     requires { ⌜ ((g : MadeFrom) × Headed g k keys (now next) (now blocks) (now names) (now out) (cell (now next) k)) ⌝ }
     requires { ⌜ Steps 16 (now «block_steps») × Steps 64 (now «name_steps») ⌝ }
-    ensures { λ r. ⌜ ((g : MadeFrom) → Headed g k keys (now (next .entry)) (now (blocks .entry)) (now (names .entry)) (now (out .entry)) (cell (now (next .entry)) k) → Entered g k keys (falling (g .chains) k) (now (blocks .exit)) (now (names .exit)) (now (out .exit))) ⌝ }
+    ensures { λ r. ⌜ ((g : MadeFrom) → Headed g k keys (now (next .entry)) (now (blocks .entry)) (now (names .entry)) (now (out .entry)) (cell (now (next .entry)) k)
+        → Entered g k keys (falling (g .chains) k) (now (blocks .exit)) (now (names .exit)) (now (out .exit))) ⌝ }
 {
     let mut j = wide(next[k]);
     while j != 0 {
@@ -48,7 +49,8 @@ pub fn enter_key(
 ) -> usize
     requires { ⌜ ((g : MadeFrom) × Keyed g (now small) (now next) (now last) (k + 1) keys (now blocks) (now names) (now out)) ⌝ }
     requires { ⌜ Steps 16 (now «block_steps») × Steps 64 (now «name_steps») ⌝ }
-    ensures { λ r. ⌜ ((g : MadeFrom) → Keyed g (now (small .entry)) (now (next .entry)) (now (last .entry)) (k + 1) keys (now (blocks .entry)) (now (names .entry)) (now (out .entry)) → Keyed g (now (small .entry)) (now (next .entry)) (now (last .entry)) k r (now (blocks .exit)) (now (names .exit)) (now (out .exit))) ⌝ }
+    ensures { λ r. ⌜ ((g : MadeFrom) → Keyed g (now (small .entry)) (now (next .entry)) (now (last .entry)) (k + 1) keys (now (blocks .entry)) (now (names .entry)) (now (out .entry))
+        → Keyed g (now (small .entry)) (now (next .entry)) (now (last .entry)) k r (now (blocks .exit)) (now (names .exit)) (now (out .exit))) ⌝ }
 {
     if last[k] == 0 {
         out[k] = keys as u16;

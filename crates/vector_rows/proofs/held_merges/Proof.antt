@@ -21,9 +21,14 @@ same-length-3 c = search needs
 
 returns : tie.Need-returns
 returns c =
-    let p = c .before .before .before .before .before .before .before .before .before .before .before .before .before .before .before .pre in
-    let e = c .before .before .before .before .merges .ensures in
-    (before-rows (p .0) (p .1) (e .0) (e .1) (search needs) (search needs) (search needs) (c .before .before .before .before .before .before .before .before .before .number-leaves .ensures), rows-of-pairs (c .before .before .before .before .before .before .before .before .before .before .before .before .before .before .before .args .v .now) (c .before .before .before .before .merges .last .1 .0) (c .before .before .before .before .merges .last .1 .1 .0) (c .before .before .before .before .merges .result) (e .1))
+    let start = c .before .before .before .before .before .before .before .before .before .before .before .before .before .before .before in
+    let given = start .pre in
+    let merged = c .before .before .before .before .merges in
+    let held = merged .ensures in
+    let numbered = c .before .before .before .before .before .before .before .before .before .number-leaves in (
+      before-rows (given .0) (given .1) (held .0) (held .1) (search needs) (search needs) (search needs) (numbered .ensures),
+      rows-of-pairs (start .args .v .now) (merged .last .1 .0) (merged .last .1 .1 .0) (merged .result) (held .1),
+    )
 
 pub held-merges-spec : {M : Type 1} → statement M
 held-merges-spec =

@@ -35,7 +35,10 @@ same-length-2 : tie.Need-same-length-2
 same-length-2 c = search needs
 
 returns : tie.Need-returns
-returns c = let e = c .before .before .before .before .before .before .before .before .before .before .before .before .before .before .held-merges .ensures .1 in (c .before .before .before .before .before .children .ensures .0 ∙ rw e, c .before .before .before .before .before .children .ensures .1 ∙ rw e)
+returns c =
+    let held = c .before .before .before .before .before .before .before .before .before .before .before .before .before .before .held-merges .ensures in
+    let written = c .before .before .before .before .before .children .ensures in
+    (written .0 ∙ rw (held .1), written .1 ∙ rw (held .1))
 
 pub rows-of-spec : {M : Type 1} → statement M
 rows-of-spec =
