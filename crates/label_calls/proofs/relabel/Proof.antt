@@ -66,9 +66,11 @@ same-length c = search needs
 
 returns-5 : tie.Need-returns-5
 unfolding answers.reads answers.numberOf
-returns-5 c = let S = checked-sound (c .before .before .before .before .before .before .before .before .before .before .check .ensures) (c .before .before .before .before .before .before .before .before .enum-told .given .1) in
-    let f = no-value-fault _ _ _ (c .before .before .before .before .before .before .before .if1 .left) (c .before .before .before .before .before .before .permutation-fault .ensures .1) (c .before .before .before .before .before .if2 .left) in
-    full-list _ _ (relabel-made _ _ S (c .before .before .before .before .before .before .before .if1 .left) f) (renamed-count _ _ (S .valid) (c .before .before .before .before .before .before .before .if1 .left) f) (c .before .before .before .before .if3 .left) (c .before .before .renamed-vector .ensures)
+returns-5 c = let told = c .before .before .before .before .before .before .before .before in
+    let S = checked-sound (told .before .before .check .ensures) (told .enum-told .given .1) in
+    let same = c .before .before .before .before .before .before .before .if1 .left in
+    let f = no-value-fault _ _ _ same (c .before .before .before .before .before .before .permutation-fault .ensures .1) (c .before .before .before .before .before .if2 .left) in
+    full-list _ _ (relabel-made _ _ S same f) (renamed-count _ _ (S .valid) same f) (c .before .before .before .before .if3 .left) (c .before .before .renamed-vector .ensures)
 
 pub relabel-spec : {M : Type 1} → statement M
 relabel-spec =

@@ -96,9 +96,11 @@ same-length-2 : tie.Need-same-length-2
 same-length-2 c = search needs
 
 returns : tie.Need-returns
-returns c = let q = c .before .before .before .before .before .before .before .before .before .before .before .before .before .before .before .before .before .before .before .before .before in
+returns c = let copied = c .before .before .before .before .before .before .before in
+    let made = copied .before .before .before .before .before .before in
+    let q = made .before .before .before .before .before .before .before .before in
     let N = labels q in
-    (labels-copied _ N (c .before .before .before .before .before .before .before .copy-numbers .ensures), vector-copied _ _ (rows (written q) .valid) N (c .before .before .before .before .before .before .before .before .before .before .before .before .before .rename-rows .ensures) (c .before .before .copy-numbers2 .ensures))
+    (labels-copied _ N (copied .copy-numbers .ensures), vector-copied _ _ (rows (written q) .valid) N (made .rename-rows .ensures) (c .before .before .copy-numbers2 .ensures))
 
 pub shuffled-spec : {M : Type 1} → statement M
 shuffled-spec =
