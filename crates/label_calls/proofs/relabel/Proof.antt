@@ -1,6 +1,5 @@
 use mathlib.Core.Path.{refl}
 use Rattle.accepting.specs.Kept.{refused-early, short-room, full-list}
-use native.Mathlib.Omega.{arith}
 use borrow.Author.Needs.{needs}
 use Rattle.rules.specs.Answer as answers
 use Rattle.rules.specs.CallRelabel as calls
