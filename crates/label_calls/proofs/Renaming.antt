@@ -1,27 +1,24 @@
 -- What shuffle and relabel make of an accepted vector.
--- Main results: shuffle-made, new-count, shuffled-count; length-refused, value-refused, relabel-made, renamed-count.
+-- Main results: shuffle-made, new-count, shuffled-count; length-refused, value-refused, no-value-fault, relabel-made.
 use mathlib.Core.List.{List, []}
 use mathlib.Core.Logic.{_≢_}
-use mathlib.Core.Option.{none, some}
-use mathlib.Core.Path.{_≡_, refl, sym, ap, _∙_}
+use mathlib.Core.Option.{none}
+use mathlib.Core.Path.{_≡_, _∙_}
 use Prim.Native.Nat.{ℕ, _≤_, _<_}
 use native.Mathlib.Omega.{arith}
-use lib.Dec.{ltb}
 use lib.ListN.{length}
 use borrow.Author.Tests.{lt-ltb, le-ltb}
-use Rattle.rules.specs.Tree.{Tree, treeOf, LeavesBelow}
+use Rattle.rules.specs.Tree.{treeOf}
 use Rattle.rules.specs.Order.{vectorOf}
 use Rattle.rules.specs.Shuffle.{renamed, newOf, permutationFault}
 use Rattle.rules.specs.Answer.{made, refuses}
 use Rattle.rules.specs.CallShuffle.{shuffle}
 use Rattle.rules.specs.CallRelabel.{relabel}
 use Rattle.accepting.specs.Guards.{wrong-length, right-length, refuse-at, pass-at}
-use Rattle.laws.specs.OneToOne.{every-tree}
 use Rattle.laws.specs.TreeOf.{tree-leaves}
-use Rattle.shuffle_laws.specs.Permutation.{permutes}
-use Rattle.shuffle_laws.specs.Renaming.{renamed-below}
 use Rattle.shuffle_laws.specs.Taken.{new-no-fault}
-use Rattle.shuffle.specs.Marks.{placeOf}
+use Rattle.permutation.specs.Marks.{placeOf}
+use Rattle.renaming.specs.VectorRows.{renamed-count}
 use Rattle.accepting.specs.FromVector.{Vector, vector-accepted}
 
 pub shuffle-made : (v : List ℕ) → Vector v → shuffle v ≡ made (newOf (treeOf v), vectorOf (renamed (newOf (treeOf v)) (treeOf v)))
@@ -31,15 +28,10 @@ shuffle-made v S = vector-accepted v _ S
 pub new-count : (v : List ℕ) → Vector v → length (newOf (treeOf v)) ≡ length v
 new-count v S = new-no-fault (tree-leaves v (S .valid)) .0
 
--- the vector of a renamed tree has an entry for each leaf
-pub renamed-count : (v p : List ℕ) → Vector v → length p ≡ length v → permutationFault (length v) 0 [] p ≡ none → length (vectorOf (renamed p (treeOf v))) ≡ length v
-renamed-count v p S l f =
-    every-tree (length v) (renamed p (treeOf v)) (renamed-below (permutes (length v) p l f) (tree-leaves v (S .valid))) .entries
-
 pub shuffled-count : (v : List ℕ) → Vector v → length (vectorOf (renamed (newOf (treeOf v)) (treeOf v))) ≡ length v
 shuffled-count v S =
     let w = new-no-fault (tree-leaves v (S .valid)) in
-    renamed-count v (newOf (treeOf v)) S (w .0) (w .1)
+    renamed-count v (newOf (treeOf v)) (S .valid) (w .0) (w .1)
 
 -- "2 (permutation length not n)"
 pub length-refused : (v p : List ℕ) → Vector v → length p ≢ length v → relabel v p ≡ refuses 2 (length v)

@@ -21,7 +21,7 @@ pub fn shuffle(v: &[u16], new: &mut [u16], out: &mut [u16]) -> Answer
             if out.len() < n {
                 return refuse(Kind::Room, n);
             }
-            renaming::shuffled(v, new, out);
+            shuffling::shuffled(v, new, out);
             Answer::Done(n)
         }
     }
@@ -38,7 +38,7 @@ pub fn relabel(v: &[u16], p: &[u16], out: &mut [u16]) -> Answer
             if p.len() != n {
                 return refuse(Kind::InputLength, n);
             }
-            let i = shuffle::permutation_fault(p, n);
+            let i = permutation::permutation_fault(p, n);
             if i < n {
                 return refuse(Kind::Permutation, i);
             }

@@ -6,3 +6,4 @@ pub mod Falling
 pub mod Shuffled
 pub mod Handed
 pub mod Rows
+pub mod Zipped

@@ -10,7 +10,7 @@ use Rattle.label_calls.proofs.shuffle.Statement.{statement}
 use Rattle.label_calls.proofs.shuffle.Tie as tie
 use Rattle.label_calls.proofs.shuffle.Reads as reads
 use Rattle.label_calls.proofs.shuffle.Lts as lts
-use Rattle.renaming.proofs.shuffled.Reads as shuffled-reads
+use Rattle.shuffling.proofs.shuffled.Reads as shuffled-reads
 use Rattle.vector_calls.proofs.check.Reads as check-reads
 use Rattle.answering.proofs.refuse.Reads as refuse-reads
 

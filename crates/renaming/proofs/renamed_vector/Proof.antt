@@ -1,6 +1,6 @@
 -- `renamed_vector` meets its contract: the vector is built in a local array and copied out.
 use native.Mathlib.Omega.{arith}
-use Rattle.renaming.specs.Rows.{rows-of, renamed-front}
+use Rattle.renaming.specs.VectorRows.{rows-of, renamed-front}
 use borrow.Author.Needs.{needs}
 use Rattle.renaming.proofs.renamed_vector.Statement.{statement}
 use Rattle.renaming.proofs.renamed_vector.Tie as tie
@@ -24,9 +24,10 @@ slice-aggregate-rename-rows-3 : tie.Need-slice-aggregate-rename-rows-3
 slice-aggregate-rename-rows-3 c = search needs
 
 rename-rows-requires : tie.Need-rename-rows-requires
-rename-rows-requires c κs = let P = c .before .before .before .before .before .before .before .before .before .before .before .pre in
-    let E = c .before .before .before .before .before .rows-of .ensures in
-    let kept = c .before .before .before .before .before .rows-of .kept in
+rename-rows-requires c κs = let w = c .before .before .before .before .before in
+    let P = w .before .before .before .before .before .before .pre in
+    let E = w .rows-of .ensures in
+    let kept = w .rows-of .kept in
     ((rows-of _ _ _ _ _ (P .0 .0) (omega arith) (omega arith) (P .0 .1) (E .0) (E .1), P .0 .1, omega (arith, P .0 .1)), P .1)
 
 slice-aggregate-copy-numbers : tie.Need-slice-aggregate-copy-numbers
@@ -39,8 +40,9 @@ same-length : tie.Need-same-length
 same-length c = search needs
 
 returns : tie.Need-returns
-returns c = let P = c .before .before .before .before .before .before .before .before .before .before .before .before .before .before .before .before .before .before .before .before .pre in
-    rw (renamed-front _ _ _ _ (P .0 .0) (P .1 .0) (P .1 .1) (c .before .before .before .before .before .before .before .before .rename-rows .ensures)) at (c .before .before .copy-numbers .ensures)
+returns c = let r = c .before .before .before .before .before .before .before .before in
+    let P = r .before .before .before .before .before .before .before .before .before .before .before .before .pre in
+    rw (renamed-front _ _ _ _ (P .0 .0) (P .1 .0) (P .1 .1) (r .rename-rows .ensures)) at (c .before .before .copy-numbers .ensures)
 
 pub renamed-vector-spec : {M : Type 1} → statement M
 renamed-vector-spec =

@@ -1,4 +1,0 @@
-pub mod Held
-pub mod Waits
-pub mod Marks
-pub mod Renames
