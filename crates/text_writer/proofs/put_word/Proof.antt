@@ -1,4 +1,4 @@
-use Rattle.text_writer.proofs.Writing.{four-there}
+use Rattle.text_writer.proofs.Standing.{four-there}
 use borrow.Author.Needs.{needs}
 use Rattle.text_writer.proofs.put_word.Statement.{statement}
 use Rattle.text_writer.proofs.put_word.Tie as tie

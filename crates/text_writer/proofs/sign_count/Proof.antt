@@ -1,5 +1,5 @@
 use mathlib.Core.Path.{refl, sym}
-use Rattle.text_writer.specs.Words.{few-signs, four-signs}
+use Rattle.text_writer.specs.Signs.{few-signs, four-signs}
 use borrow.Author.Needs.{needs}
 use Rattle.text_writer.proofs.sign_count.Statement.{statement}
 use Rattle.text_writer.proofs.sign_count.Tie as tie

@@ -1,0 +1,3 @@
+pub mod Commas
+pub mod Parts
+pub mod Text
