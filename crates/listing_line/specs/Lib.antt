@@ -1,3 +1,3 @@
-pub mod Front
+pub mod Parts
 pub mod Commas
 pub mod Longest

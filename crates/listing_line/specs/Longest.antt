@@ -13,8 +13,10 @@ use Rattle.rules.specs.Listing.{commaed, lineOf}
 use Rattle.laws.specs.TreeOf.{tree-leaves}
 use Rattle.grammar.specs.Length.{text-length, text-length-most}
 use Rattle.digits.specs.Wrote.{Wrote}
-use Rattle.listing_line.specs.Front.{frontOf, line-parts}
-use Rattle.listing_line.specs.Commas.{digits-at-most, commaed-longest}
+use Rattle.digits.specs.Count.{digits-at-most}
+use Rattle.listing_front.specs.Front.{frontOf}
+use Rattle.listing_line.specs.Parts.{line-parts}
+use Rattle.listing_line.specs.Commas.{commaed-longest}
 
 module _ (v : List ℕ) (ok : Valid v) (few : length v ≤ 1024) where
   pub text-at-most : length (textOf (treeOf v)) ≤ 6056

@@ -1,34 +1,22 @@
 -- A node that is written: a leaf by its word, a pair child by child.
 -- Main results: leaf-room, leaf-wrote, open-room, first-room, comma-room, second-room, close-room, pair-stands, root-room, end-room, text-stands.
-use mathlib.Core.Bool.{Bool, true, false, cond}
 use mathlib.Core.List.{List}
 use mathlib.Core.Path.{_≡_, sym, ap, subst, subst₂, _∙_}
 use Prim.Native.Nat.{ℕ, _+_, _-_, _*_, _/_, _%_, _≤_, _<_}
 use native.Mathlib.Omega.{arith}
-use lib.Dec.{ltb}
 use lib.ListN.{length, getD, set, length-set}
 use lib.Seq.{sets}
 use borrow.Author.Tests.{lt-ltb}
 use Rattle.rules.specs.Newick.{digits, pairText, nodeText, textOf}
 use Rattle.rules.specs.Tree.{node, least}
 use Rattle.table_laws.specs.Tied.{treeAt, wholeTree, tree-leaf, tree-pair}
-use Rattle.grammar.specs.Decimal.{digitCount, digits-length}
 use Rattle.grammar.specs.Length.{pair-length}
+use Rattle.digits.specs.Count.{some-digit, digits-at-most}
 use Rattle.label_words.specs.Words.{wordOf}
 use Rattle.label_words.specs.Leaves.{leavesPlace}
 use Rattle.text_writer.specs.Signs.{wordBytes, signCount, word-signs, word-bytes}
 use Rattle.text_writer.specs.Output.{signPlaces, NodeWords, NodeRoom, TextRoom, Stands}
 use Rattle.text_writer.proofs.Standing.{stands-sign, stands-then, stands-first, text-room}
-
-some-digits : (x : ℕ) → (1 ≤ length (digits 4 x)) × (length (digits 4 x) ≤ 4)
-unfolding digitCount
-some-digits x = subst (λ (k : ℕ). (1 ≤ k) × (k ≤ 4)) (sym (digits-length x)) (go (ltb x 10) (ltb x 100) (ltb x 1000))
-  where
-    go : (a b c : Bool) → (1 ≤ cond a 1 (cond b 2 (cond c 3 4))) × (cond a 1 (cond b 2 (cond c 3 4)) ≤ 4)
-    go true b c = (omega arith, omega arith)
-    go false true c = (omega arith, omega arith)
-    go false false true = (omega arith, omega arith)
-    go false false false = (omega arith, omega arith)
 
 module _ {n : ℕ} {left right words : List ℕ} {k : ℕ} {text : List ℕ} {at : ℕ} (P : NodeRoom n left right words k text at) where
   W : NodeWords n left right words
@@ -46,7 +34,7 @@ module _ {n : ℕ} {left right words : List ℕ} {k : ℕ} {text : List ℕ} {at
     leaf-text = rw (tree-leaf n left right k leaf)
 
     pub leaf-room : at + 4 ≤ signPlaces
-    leaf-room = omega (arith, P .room, ap length leaf-text, some-digits k .0)
+    leaf-room = omega (arith, P .room, ap length leaf-text, some-digit 3 k)
 
     pub leaf-stands : Stands (textAt k) at text (sets text at (wordBytes (getD words k 0))) (at + signCount (getD words k 0))
     leaf-stands =
@@ -55,7 +43,7 @@ module _ {n : ℕ} {left right words : List ℕ} {k : ℕ} {text : List ℕ} {at
         let e : getD words k 0 ≡ wordOf k = W .leaf-words .labels k leaf in
         subst (λ (w : ℕ). Stands (textAt k) at text (sets text at (wordBytes w)) (at + signCount w)) (sym e)
         (subst₂ (λ (s : List ℕ) (j : ℕ). Stands s at text (sets text at (wordBytes (wordOf k))) (at + j)) (word-bytes k small ∙ sym leaf-text) (sym d)
-        (stands-first text at (length (digits 4 k)) (wordBytes (wordOf k)) (omega (arith, leaf-room, P .whole)) (some-digits k .1)))
+        (stands-first text at (length (digits 4 k)) (wordBytes (wordOf k)) (omega (arith, leaf-room, P .whole)) (digits-at-most 4 k)))
 
     -- and so does what is the same
     pub leaf-wrote : {text₁ : List ℕ} {j : ℕ} → text₁ ≡ sets text at (wordBytes (getD words k 0)) → j ≡ signCount (getD words k 0) → Stands (textAt k) at text text₁ (at + j)
@@ -145,9 +133,6 @@ module _ {n : ℕ} {left right words : List ℕ} {k : ℕ} {text : List ℕ} {at
 
 -- the whole text
 module _ {n : ℕ} {left right words text : List ℕ} (T : TextRoom n left right words text) where
-  root : ℕ
-  root = n + (n - 1) - 1
-
   pub root-room : NodeRoom n left right words (n + (n - 1) - 1) text 0
   unfolding wholeTree
   root-room =

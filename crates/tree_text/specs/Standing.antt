@@ -14,7 +14,7 @@ use Rattle.rules.specs.Vector.{entry, Valid}
 use Rattle.rules.specs.Building.{Merge}
 use Rattle.rules.specs.Tree.{Tree, leaf, node, least, Clusters, treeOf}
 use Rattle.rules.specs.Newick.{textOf}
-use Rattle.rules.specs.Table.{Row, rowsFrom, nodesOf, tableTree}
+use Rattle.rules.specs.Table.{rowsFrom, nodesOf, tableTree}
 use Rattle.merging.specs.Insertion.{pairsOf, pairs, pairs-count, valid-bounded}
 use Rattle.merging.specs.Greedy.{under-pairs}
 use Rattle.merging.specs.Named.{named, Good, good, Rising, rising, smaller-named, larger-named, still-named, named-below}

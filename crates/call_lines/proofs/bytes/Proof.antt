@@ -1,11 +1,7 @@
-use native.Mathlib.Omega.{arith}
 use borrow.Author.Needs.{needs}
 use Rattle.io.proofs.Counting.{counts}
 use Rattle.call_lines.proofs.bytes.Statement.{statement}
 use Rattle.call_lines.proofs.bytes.Tie as tie
-use Rattle.call_lines.proofs.bytes.Reads as reads
-use Rattle.call_lines.proofs.bytes.Lts as lts
-use Rattle.call_lines.proofs.written.Reads as written-reads
 
 written-requires : tie.Need-written-requires
 written-requires c κs = search needs

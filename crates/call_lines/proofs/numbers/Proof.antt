@@ -1,11 +1,7 @@
-use native.Mathlib.Omega.{arith}
 use borrow.Author.Needs.{needs}
 use Rattle.io.proofs.Counting.{counts}
 use Rattle.call_lines.proofs.numbers.Statement.{statement}
 use Rattle.call_lines.proofs.numbers.Tie as tie
-use Rattle.call_lines.proofs.numbers.Reads as reads
-use Rattle.call_lines.proofs.numbers.Lts as lts
-use Rattle.call_lines.proofs.written.Reads as written-reads
 
 written-requires : tie.Need-written-requires
 written-requires c κs = search needs

@@ -9,8 +9,6 @@ use Rattle.grammar.specs.Decimal.{twoDigits, digits-one, digits-two, digits-thr
 use Rattle.digits.proofs.Places.{wrote-1, wrote-2, wrote-3, wrote-4}
 use Rattle.digits.proofs.write_label.Statement.{statement}
 use Rattle.digits.proofs.write_label.Tie as tie
-use Rattle.digits.proofs.sign.Reads as sign-reads
-use Rattle.digits.proofs.write_two.Reads as write-two-reads
 
 cast-y : tie.Need-cast-y
 cast-y c = search needs

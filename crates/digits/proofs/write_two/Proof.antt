@@ -4,9 +4,6 @@ use lib.ListN.{length-set}
 use Rattle.digits.proofs.Places.{two-there}
 use Rattle.digits.proofs.write_two.Statement.{statement}
 use Rattle.digits.proofs.write_two.Tie as tie
-use Rattle.digits.proofs.write_two.Reads as reads
-use Rattle.digits.proofs.write_two.Lts as lts
-use Rattle.digits.proofs.sign.Reads as sign-reads
 
 sign-requires : tie.Need-sign-requires
 sign-requires c κs = search needs

@@ -5,11 +5,6 @@ use Rattle.label_words.specs.Longer.{word-two, word-three, word-four}
 use Rattle.label_words.proofs.Tens.{first-ten, reaches, all-labels}
 use Rattle.label_words.proofs.leaf_words.Statement.{statement}
 use Rattle.label_words.proofs.leaf_words.Tie as tie
-use Rattle.label_words.proofs.leaf_words.Reads as reads
-use Rattle.label_words.proofs.leaf_words.Lts as lts
-use Rattle.numbers.proofs.lesser.Reads as lesser-reads
-use Rattle.label_words.proofs.longer_labels.Reads as longer-labels-reads
-use Rattle.label_words.proofs.ten_words.Reads as ten-words-reads
 
 add-ten-words : tie.Need-add-ten-words
 add-ten-words c = search needs

@@ -4,9 +4,6 @@ use native.Mathlib.Omega.{arith}
 use borrow.Author.Needs.{needs}
 use Rattle.label_words.proofs.longer_labels.Statement.{statement}
 use Rattle.label_words.proofs.longer_labels.Tie as tie
-use Rattle.label_words.proofs.longer_labels.Reads as reads
-use Rattle.label_words.proofs.longer_labels.Lts as lts
-use Rattle.label_words.proofs.ten_words.Reads as ten-words-reads
 
 abbrev Inv-loop : tie.InvT-loop
 Inv-loop words₀ from to more step y₀ words y = Longest from to more step words y

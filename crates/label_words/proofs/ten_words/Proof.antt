@@ -4,8 +4,6 @@ use native.Mathlib.Omega.{arith}
 use borrow.Author.Needs.{needs}
 use Rattle.label_words.proofs.ten_words.Statement.{statement}
 use Rattle.label_words.proofs.ten_words.Tie as tie
-use Rattle.label_words.proofs.ten_words.Reads as reads
-use Rattle.label_words.proofs.ten_words.Lts as lts
 
 abbrev Inv-loop : tie.InvT-loop
 Inv-loop words₀ at first step d₀ words d = TenSome words₀ at first step words d

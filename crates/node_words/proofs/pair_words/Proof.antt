@@ -7,8 +7,6 @@ use Rattle.table.specs.Numbered.{turn}
 use Rattle.node_words.specs.Paired.{PairRoom, Pairing, pairing-start, pairing-room, pairing-next, pairing-end}
 use Rattle.node_words.proofs.pair_words.Statement.{statement}
 use Rattle.node_words.proofs.pair_words.Tie as tie
-use Rattle.node_words.proofs.pair_word.Reads as pair-word-reads
-use Rattle.numbers.proofs.wide.Reads as wide-reads
 
 abbrev Inv-loop : tie.InvT-loop
 Inv-loop list small start n number₀ words₀ last t₀ number words t = Pairing list small start n number₀ number words t

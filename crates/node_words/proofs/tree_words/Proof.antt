@@ -3,12 +3,6 @@ use Rattle.table.specs.Numbered.{held-of}
 use Rattle.node_words.specs.Paired.{vector-paired}
 use Rattle.node_words.proofs.tree_words.Statement.{statement}
 use Rattle.node_words.proofs.tree_words.Tie as tie
-use Rattle.node_words.proofs.tree_words.Reads as reads
-use Rattle.node_words.proofs.tree_words.Lts as lts
-use Rattle.merges.proofs.merges.Reads as merges-reads
-use Rattle.label_words.proofs.leaf_words.Reads as leaf-words-reads
-use Rattle.node_words.proofs.pair_words.Reads as pair-words-reads
-use Rattle.lists.proofs.number_leaves.Reads as number-leaves-reads
 
 slice-aggregate-number-leaves : tie.Need-slice-aggregate-number-leaves
 slice-aggregate-number-leaves c = search needs

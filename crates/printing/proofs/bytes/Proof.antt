@@ -1,13 +1,8 @@
 use lib.ListN.{length}
 use Prim.Native.Nat.{_-_}
-use native.Mathlib.Omega.{arith}
 use borrow.Author.Needs.{needs}
 use Rattle.printing.proofs.bytes.Statement.{statement}
 use Rattle.printing.proofs.bytes.Tie as tie
-use Rattle.printing.proofs.bytes.Reads as reads
-use Rattle.printing.proofs.bytes.Lts as lts
-use Rattle.printing.proofs.byte.Reads as byte-reads
-use Rattle.printing.proofs.digit.Reads as digit-reads
 
 abbrev Inv-loop : tie.InvT-loop
 Inv-loop s k₀ k = Unit {0}

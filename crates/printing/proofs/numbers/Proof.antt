@@ -1,14 +1,8 @@
 use lib.ListN.{length}
 use Prim.Native.Nat.{_-_}
-use native.Mathlib.Omega.{arith}
 use borrow.Author.Needs.{needs}
 use Rattle.printing.proofs.numbers.Statement.{statement}
 use Rattle.printing.proofs.numbers.Tie as tie
-use Rattle.printing.proofs.numbers.Reads as reads
-use Rattle.printing.proofs.numbers.Lts as lts
-use Rattle.io.proofs.print_decimal.Reads as print-decimal-reads
-use Rattle.printing.proofs.byte.Reads as byte-reads
-use Rattle.printing.proofs.wide.Reads as wide-reads
 
 abbrev Inv-loop : tie.InvT-loop
 Inv-loop xs k₀ k = Unit {0}

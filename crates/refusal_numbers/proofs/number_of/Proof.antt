@@ -2,8 +2,6 @@ use borrow.Author.Needs.{needs}
 use Rattle.rules.specs.Answer as answers
 use Rattle.refusal_numbers.proofs.number_of.Statement.{statement}
 use Rattle.refusal_numbers.proofs.number_of.Tie as tie
-use Rattle.refusal_numbers.proofs.number_of.Reads as reads
-use Rattle.refusal_numbers.proofs.number_of.Lts as lts
 
 enum-told : tie.Need-enum-told
 enum-told c = search needs

@@ -2,9 +2,6 @@ use Rattle.tree_text.specs.Long.{length-closed}
 use borrow.Author.Needs.{needs}
 use Rattle.tree_text.proofs.text_length.Statement.{statement}
 use Rattle.tree_text.proofs.text_length.Tie as tie
-use Rattle.tree_text.proofs.text_length.Reads as reads
-use Rattle.tree_text.proofs.text_length.Lts as lts
-use Rattle.tree_text.proofs.reaching.Reads as reaching-reads
 
 reaching-requires : tie.Need-reaching-requires
 reaching-requires c κs = search needs

@@ -5,11 +5,6 @@ use Rattle.grammar.specs.Length.{text-length-most}
 use Rattle.tree_text.specs.Standing.{lefts, rights, text-fits, text-end, text-there}
 use Rattle.tree_text.proofs.write_tree.Statement.{statement}
 use Rattle.tree_text.proofs.write_tree.Tie as tie
-use Rattle.tree_text.proofs.write_tree.Reads as reads
-use Rattle.tree_text.proofs.write_tree.Lts as lts
-use Rattle.text_writer.proofs.write_text.Reads as write-text-reads
-use Rattle.lists.proofs.copy_bytes.Reads as copy-bytes-reads
-use Rattle.node_words.proofs.tree_words.Reads as tree-words-reads
 
 slice-aggregate-tree-words : tie.Need-slice-aggregate-tree-words
 slice-aggregate-tree-words c = search needs

@@ -1,5 +1,5 @@
--- A line up to its text.
--- Main definitions: frontOf. Main results: line-parts.
+-- The parts of a line.
+-- Main results: line-parts.
 use mathlib.Core.List.{List, [], _∷_, _++_, append-assoc}
 use mathlib.Core.Path.{_≡_, sym, ap, _∙_}
 use Prim.Native.Nat.{ℕ}
@@ -7,11 +7,7 @@ use lib.ListN.{length}
 use Rattle.rules.specs.Tree.{treeOf}
 use Rattle.rules.specs.Newick.{digits, textOf}
 use Rattle.rules.specs.Listing.{commaed, lineOf}
-
--- n, a space, the vector with commas, a space
-unfoldable pub frontOf : List ℕ → List ℕ
-unfolding digits commaed
-frontOf v = digits 4 (length v) ++ (32 ∷ commaed v ++ (32 ∷ []))
+use Rattle.listing_front.specs.Front.{frontOf}
 
 parts-in-a-row : (a b c : List ℕ) → a ++ (32 ∷ b ++ (32 ∷ c)) ≡ (a ++ (32 ∷ b ++ (32 ∷ []))) ++ c
 parts-in-a-row a b c = sym (append-assoc a (32 ∷ b ++ (32 ∷ [])) c ∙ ap (λ (w : List ℕ). a ++ (32 ∷ w)) (append-assoc b (32 ∷ []) c))

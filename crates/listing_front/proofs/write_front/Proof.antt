@@ -2,10 +2,10 @@
 use native.Mathlib.Omega.{arith}
 use lib.ListN.{length, length-set}
 use Rattle.digits.specs.Wrote.{wrote-same}
-use Rattle.listing_line.specs.Commas.{digits-at-most}
-use Rattle.listing_line.proofs.Parts.{front-written, entries-room, space-room}
-use Rattle.listing_line.proofs.write_front.Statement.{statement}
-use Rattle.listing_line.proofs.write_front.Tie as tie
+use Rattle.digits.specs.Count.{digits-at-most}
+use Rattle.listing_front.proofs.Parts.{front-written, entries-room, space-room}
+use Rattle.listing_front.proofs.write_front.Statement.{statement}
+use Rattle.listing_front.proofs.write_front.Tie as tie
 
 write-label-requires : tie.Need-write-label-requires
 write-label-requires c κs =

@@ -4,10 +4,10 @@ use borrow.Author.Needs.{needs}
 use mathlib.Core.List.{List}
 use Prim.Native.Nat.{ℕ, _-_}
 use lib.ListN.{length}
-use Rattle.listing_line.specs.Commas.{digits-at-most}
-use Rattle.listing_line.proofs.Commas.{Listed, listed-start, listed-next, listed-end, listed-same, listed-room, entry-room, entry-small}
-use Rattle.listing_line.proofs.write_entries.Statement.{statement}
-use Rattle.listing_line.proofs.write_entries.Tie as tie
+use Rattle.digits.specs.Count.{digits-at-most}
+use Rattle.listing_front.proofs.Commas.{Listed, listed-start, listed-next, listed-end, listed-same, listed-room, entry-room, entry-small}
+use Rattle.listing_front.proofs.write_entries.Statement.{statement}
+use Rattle.listing_front.proofs.write_entries.Tie as tie
 
 abbrev Inv-loop : tie.InvT-loop
 Inv-loop v out₀ at x₀ i₀ out x i = (before : List ℕ) → Listed v at before out₀ 1 x₀ → Listed v at before out i x

@@ -11,7 +11,8 @@ use Rattle.rules.specs.Vector.{Valid, entry, bound}
 use Rattle.rules.specs.Newick.{digits}
 use Rattle.rules.specs.Listing.{commaed}
 use Rattle.digits.specs.Wrote.{Wrote, wrote-same, wrote-behind}
-use Rattle.listing_line.specs.Commas.{digits-at-most, commaed-at-most, commaed-more}
+use Rattle.digits.specs.Count.{digits-at-most}
+use Rattle.listing_front.specs.Commas.{commaed-at-most, commaed-more}
 
 -- every entry has at most four digits
 pub entry-small : (v : List ℕ) (i : ℕ) → Valid v → length v ≤ 1024 → i < length v → getD v i 0 < 10000
