@@ -1,5 +1,5 @@
 -- The words of labels, ten by ten.
--- Main definitions: TenSome, Longest. Main results: ten-start, ten-next, ten-end, first-ten, longest-start, longest-next, longest-end, all-labels.
+-- Main definitions: TenSome, LongerTo. Main results: ten-start, ten-next, ten-end, first-ten, longer-start, longer-next, longer-end, all-labels.
 use mathlib.Core.Bool.{Bool, true, false}
 use mathlib.Core.List.{List}
 use mathlib.Core.Path.{_≡_, refl, sym, ap, _∙_}
@@ -72,7 +72,7 @@ ten-labels {before} {after} y first step L T w x h = go (ltb x (10 * y)) refl
         ap (λ (i : ℕ). getD after i 0) (sym z) ∙ T .ten (x - 10 * y) k ∙ sym (w (x - 10 * y) k) ∙ ap wordOf z
 
 -- the labels that continue those below y stand
-pub record Longest (from to more step : ℕ) (words : List ℕ) (y : ℕ) : Type 0 where
+pub record LongerTo (from to more step : ℕ) (words : List ℕ) (y : ℕ) : Type 0 where
   pub some : 1 ≤ from
   pub few : to ≤ 103
   pub low : more ≤ 900000000
@@ -81,9 +81,9 @@ pub record Longest (from to more step : ℕ) (words : List ℕ) (y : ℕ) : Type
   pub behind : from ≤ y
   pub done : Tens y words
 
-pub longest-start : {from to more step : ℕ} {words : List ℕ} → (1 ≤ from) × (to ≤ 103) × (more ≤ 900000000) × (step ≤ 16777216) × Tens from words × Longer from to more step
-    → Longest from to more step words from
-longest-start p = record {
+pub longer-start : {from to more step : ℕ} {words : List ℕ} → (1 ≤ from) × (to ≤ 103) × (more ≤ 900000000) × (step ≤ 16777216) × Tens from words × Longer from to more step
+    → LongerTo from to more step words from
+longer-start p = record {
   some = p .0;
   few = p .1;
   low = p .2;
@@ -93,7 +93,7 @@ longest-start p = record {
   done = p .4;
 }
 
-module _ {from to more step : ℕ} {words : List ℕ} {y : ℕ} (L : Longest from to more step words y) (h : y < to) where
+module _ {from to more step : ℕ} {words : List ℕ} {y : ℕ} (L : LongerTo from to more step words y) (h : y < to) where
   word-here : getD words y 0 ≡ wordOf y
   word-here = L .done .labels y (omega (arith, L .some, L .behind))
 
@@ -102,8 +102,8 @@ module _ {from to more step : ℕ} {words : List ℕ} {y : ℕ} (L : Longest fro
       let s = word-small y (omega (arith, L .few)) in
       (omega (arith, L .few), omega (arith, L .few, L .done .long), omega (arith, word-here, L .low), omega (arith, L .few, L .done .long))
 
-  pub longest-next : {after : List ℕ} → TenMore words (10 * y) (getD words y 0 + more) step after → Longest from to more step after (y + 1)
-  longest-next {after} T = record {
+  pub longer-next : {after : List ℕ} → TenMore words (10 * y) (getD words y 0 + more) step after → LongerTo from to more step after (y + 1)
+  longer-next {after} T = record {
     some = L .some;
     few = L .few;
     low = L .low;

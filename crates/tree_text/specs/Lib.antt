@@ -1,2 +1,3 @@
 pub mod Long
-pub mod Standing
+pub mod OrderedRows
+pub mod Fits

@@ -1,18 +1,18 @@
 use Prim.Native.Nat.{_-_}
-use Rattle.label_words.proofs.Tens.{Longest, longest-start, word-room, longest-next}
+use Rattle.label_words.proofs.Tens.{LongerTo, longer-start, word-room, longer-next}
 use native.Mathlib.Omega.{arith}
 use borrow.Author.Needs.{needs}
 use Rattle.label_words.proofs.longer_labels.Statement.{statement}
 use Rattle.label_words.proofs.longer_labels.Tie as tie
 
 abbrev Inv-loop : tie.InvT-loop
-Inv-loop words₀ from to more step y₀ words y = Longest from to more step words y
+Inv-loop words₀ from to more step y₀ words y = LongerTo from to more step words y
 
 abbrev μ-loop : tie.MeasureT-loop
 μ-loop words₀ from to more step y₀ words y = to - y
 
 loop-holds : tie.Need-loop-holds Inv-loop μ-loop
-loop-holds c = longest-start (c .before .pre)
+loop-holds c = longer-start (c .before .pre)
 
 mul-first : tie.Need-mul-first Inv-loop μ-loop
 mul-first c = search needs
@@ -38,7 +38,7 @@ loop-less : tie.Need-loop-less Inv-loop μ-loop
 loop-less c = search needs
 
 loop-again : tie.Need-loop-again Inv-loop μ-loop
-loop-again c = longest-next (c .before .before .before .before .before .before .loop .inv) (c .before .before .before .before .before .loop-test .taken) (c .before .before .ten-words .ensures)
+loop-again c = longer-next (c .before .before .before .before .before .before .loop .inv) (c .before .before .before .before .before .loop-test .taken) (c .before .before .ten-words .ensures)
 
 same-length : tie.Need-same-length Inv-loop μ-loop
 same-length c = search needs

@@ -2,7 +2,8 @@ use native.Mathlib.Omega.{arith}
 use borrow.Author.Needs.{needs}
 use mathlib.Core.Path.{refl, sym}
 use Rattle.grammar.specs.Length.{text-length-most}
-use Rattle.tree_text.specs.Standing.{lefts, rights, text-fits, text-end, text-there}
+use Rattle.tree_text.specs.OrderedRows.{lefts, rights}
+use Rattle.tree_text.specs.Fits.{text-fits, text-end, text-there}
 use Rattle.tree_text.proofs.write_tree.Statement.{statement}
 use Rattle.tree_text.proofs.write_tree.Tie as tie
 
@@ -15,7 +16,7 @@ tree-words-requires c κs = search needs
 write-text-requires : tie.Need-write-text-requires
 write-text-requires c κs = let at-tree-words = c .before .before .before in
     let start = c .before .before .before .before .before .before .before in
-    (lefts (start .args .v .now) (start .pre .0) (start .pre .1), rights (start .args .v .now) (start .pre .0) (start .pre .1), text-fits (start .args .v .now) (start .pre .0) (start .pre .1) _ _ (at-tree-words .tree-words .ensures) refl)
+    (lefts (start .args .v .now), rights (start .args .v .now), text-fits (start .args .v .now) (start .pre .0) (start .pre .1) _ _ (at-tree-words .tree-words .ensures) refl)
 
 slice-aggregate-copy-bytes : tie.Need-slice-aggregate-copy-bytes
 slice-aggregate-copy-bytes c = let at-tree-words = c .before .before .before .before .before in

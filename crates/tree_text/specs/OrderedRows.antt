@@ -1,31 +1,29 @@
 -- The rows of a vector, as children by their numbers: each child stands before its row's node, the child with the smaller
 -- least leaf first, and the tree of the last node is the vector's.
--- Main results: least-first, text-fits, text-end, text-there.
+-- Main definitions: lefts, rights. Main results: least-first, rows-ordered, rows-tree.
 use mathlib.Core.Bool.{Bool, true, false, cond}
-use mathlib.Core.List.{List, [], _∷_, _++_, map}
+use mathlib.Core.List.{List, [], _∷_, map}
 use mathlib.Core.Path.{_≡_, refl, sym, ap, ap₂, _∙_}
 use Prim.Native.Nat.{ℕ, zero, suc, _+_, _-_, _≤_, _<_}
 use native.Mathlib.Omega.{arith}
 use lib.Dec.{eqb}
-use lib.ListN.{length, getD, take, drop, length-map, List·getD-map}
+use lib.ListN.{length, getD, take, length-map, List·getD-map}
 use lib.Seq.{take-all}
 use borrow.Author.Tests.{eqb-true, eq-eqb, ne-eqb}
 use Rattle.rules.specs.Vector.{entry, Valid}
 use Rattle.rules.specs.Building.{Merge}
-use Rattle.rules.specs.Tree.{Tree, leaf, node, least, Clusters, treeOf}
-use Rattle.rules.specs.Newick.{textOf}
+use Rattle.rules.specs.Tree.{leaf, node, least, Clusters, treeOf}
 use Rattle.rules.specs.Table.{rowsFrom, nodesOf, tableTree}
 use Rattle.merging.specs.Insertion.{pairsOf, pairs, pairs-count, valid-bounded}
 use Rattle.merging.specs.Greedy.{under-pairs}
 use Rattle.merging.specs.Named.{named, Good, good, Rising, rising, smaller-named, larger-named, still-named, named-below}
-use Rattle.laws.specs.TreeOf.{tree-by-pairs, tree-leaves}
-use Rattle.grammar.specs.Length.{textLength, text-length, text-length-most}
+use Rattle.laws.specs.TreeOf.{tree-by-pairs}
 use Rattle.table_laws.specs.Tied.{tied, treeAt, wholeTree, tree-whole}
 use Rattle.table_laws.specs.Rows.{first, second, rows-length, tied-rows, renumber}
 use Rattle.table_laws.specs.Accepted.{pairs-below}
 use Rattle.table_laws.specs.Grown.{pairs-tree}
-use Rattle.text_writer.specs.Output.{signPlaces, Ordered, TextRoom, Stands}
-use Rattle.node_words.specs.Paired.{Paired, vectorRows}
+use Rattle.text_writer.specs.Output.{Ordered}
+use Rattle.node_words.specs.Paired.{vectorRows}
 
 -- the nodes after a row
 abbrev above : Clusters → ℕ → ℕ → ℕ → Clusters
@@ -39,12 +37,12 @@ nodes-before p number (m ∷ P) C k h =
     nodes-before (p + 1) (renumber number (m .0) p) P (above C p (number (m .0)) (number (m .1))) k (omega arith) ∙ rw (ne-eqb k p (λ q. omega arith))
 
 -- Each name that is left has a node below p, whose least leaf is the name.
-record Named (P : List Merge) (p : ℕ) (number : ℕ → ℕ) (C : Clusters) : Type 0 where
+record NodeOfName (P : List Merge) (p : ℕ) (number : ℕ → ℕ) (C : Clusters) : Type 0 where
   pub below : (x : ℕ) → named P x ≡ true → number x < p
   pub name : (x : ℕ) → named P x ≡ true → least (C (number x)) ≡ x
 
-named-next : (m : Merge) (P : List Merge) (p : ℕ) (number : ℕ → ℕ) (C : Clusters) → Good (m ∷ P) → m .0 < m .1 → Named (m ∷ P) p number C
-    → Named P (p + 1) (renumber number (m .0) p) (above C p (number (m .0)) (number (m .1)))
+named-next : (m : Merge) (P : List Merge) (p : ℕ) (number : ℕ → ℕ) (C : Clusters) → Good (m ∷ P) → m .0 < m .1 → NodeOfName (m ∷ P) p number C
+    → NodeOfName P (p + 1) (renumber number (m .0) p) (above C p (number (m .0)) (number (m .1)))
 unfolding least
 named-next m P p number C G u N = record {
   below = λ x h. below′ x h (eqb x (m .0)) refl;
@@ -67,7 +65,7 @@ named-next m P p number C G u N = record {
     name′ x h false q = rw (ne-eqb (number x) p (λ e. omega (arith, old x h))) (N .name x (still-named m P x h))
 
 -- the child with the smaller least leaf is first in row j
-least-first : (P : List Merge) (p : ℕ) (number : ℕ → ℕ) (C : Clusters) → Good P → Rising P → Named P p number C → (j : ℕ) → j < length P
+least-first : (P : List Merge) (p : ℕ) (number : ℕ → ℕ) (C : Clusters) → Good P → Rising P → NodeOfName P p number C → (j : ℕ) → j < length P
     → least (nodesOf (rowsFrom p number P) C (getD (rowsFrom p number P) j (0, 0, 0) .0)) < least (nodesOf (rowsFrom p number P) C (getD (rowsFrom p number P) j (0, 0, 0) .1))
 unfolding nodesOf rowsFrom Good Rising
 least-first [] p number C G R N j h = absurd (omega arith)
@@ -81,34 +79,34 @@ least-first (m ∷ P) p number C G R N zero h =
 least-first (m ∷ P) p number C G R N (suc j) h =
     least-first P (p + 1) (renumber number (m .0) p) (above C p (number (m .0)) (number (m .1))) (G .2) (R .1) (named-next m P p number C G (R .0) N) j (omega arith)
 
+-- the children of a vector's rows
+abbrev pub lefts : List ℕ → List ℕ
+lefts v = map first (vectorRows v)
+
+abbrev pub rights : List ℕ → List ℕ
+rights v = map second (vectorRows v)
+
+pub left-at : (v : List ℕ) (j : ℕ) → getD (lefts v) j 0 ≡ getD (vectorRows v) j (0, 0, 0) .0
+left-at v j = List·getD-map first (vectorRows v) j (0, 0, 0)
+
+pub right-at : (v : List ℕ) (j : ℕ) → getD (rights v) j 0 ≡ getD (vectorRows v) j (0, 0, 0) .1
+right-at v j = List·getD-map second (vectorRows v) j (0, 0, 0)
+
 module _ (v : List ℕ) (ok : Valid v) (few : length v ≤ 1024) where
-  -- the children of the rows
-  abbrev pub lefts : List ℕ
-  lefts = map first (vectorRows v)
-
-  abbrev pub rights : List ℕ
-  rights = map second (vectorRows v)
-
   count : length (vectorRows v) ≡ length v - 1
   unfolding pairs
   count = rows-length (length v) (λ c. c) (pairs v) ∙ pairs-count (entry v) (length v)
 
-  left-count : length lefts ≡ length v - 1
+  left-count : length (lefts v) ≡ length v - 1
   left-count = length-map (vectorRows v) first ∙ count
 
-  right-count : length rights ≡ length v - 1
+  right-count : length (rights v) ≡ length v - 1
   right-count = length-map (vectorRows v) second ∙ count
 
-  table : tied (length v) (take (length v - 1) lefts) (take (length v - 1) rights) ≡ vectorRows v
+  table : tied (length v) (take (length v - 1) (lefts v)) (take (length v - 1) (rights v)) ≡ vectorRows v
   table =
-      ap₂ (tied (length v)) (take-all (length v - 1) lefts (omega (arith, left-count))) (take-all (length v - 1) rights (omega (arith, right-count)))
+      ap₂ (tied (length v)) (take-all (length v - 1) (lefts v) (omega (arith, left-count))) (take-all (length v - 1) (rights v) (omega (arith, right-count)))
       ∙ tied-rows (length v) (λ c. c) (pairs v)
-
-  left-at : (j : ℕ) → getD lefts j 0 ≡ getD (vectorRows v) j (0, 0, 0) .0
-  left-at j = List·getD-map first (vectorRows v) j (0, 0, 0)
-
-  right-at : (j : ℕ) → getD rights j 0 ≡ getD (vectorRows v) j (0, 0, 0) .1
-  right-at j = List·getD-map second (vectorRows v) j (0, 0, 0)
 
   in-rows : (j : ℕ) → j < length v - 1
       → least (nodesOf (vectorRows v) leaf (getD (vectorRows v) j (0, 0, 0) .0)) < least (nodesOf (vectorRows v) leaf (getD (vectorRows v) j (0, 0, 0) .1))
@@ -116,46 +114,22 @@ module _ (v : List ℕ) (ok : Valid v) (few : length v ≤ 1024) where
   in-rows j h =
       let n = length v in
       let P = pairsOf (entry v) n in
-      let N : Named P n (λ c. c) leaf = record { below = named-below n P (ok .some-leaf) (under-pairs (entry v) n); name = λ x e. refl } in
+      let N : NodeOfName P n (λ c. c) leaf = record { below = named-below n P (ok .some-leaf) (under-pairs (entry v) n); name = λ x e. refl } in
       least-first P n (λ c. c) leaf (good (entry v) n (valid-bounded v ok)) (rising (entry v) n (valid-bounded v ok)) N j (omega (arith, pairs-count (entry v) (length v)))
 
-  rows-ordered : Ordered (length v) lefts rights
+  pub rows-ordered : Ordered (length v) (lefts v) (rights v)
   unfolding treeAt
   rows-ordered = record {
     some-leaf = ok .some-leaf;
     few = few;
     lefts-there = omega (arith, left-count);
     rights-there = omega (arith, right-count);
-    left-below = λ j h. omega (arith, left-at j, pairs-below v ok j h .0);
-    right-below = λ j h. omega (arith, right-at j, pairs-below v ok j h .1);
-    smaller-first = λ j h. rw (table, left-at j, right-at j) (in-rows j h);
+    left-below = λ j h. omega (arith, left-at v j, pairs-below v ok j h .0);
+    right-below = λ j h. omega (arith, right-at v j, pairs-below v ok j h .1);
+    smaller-first = λ j h. rw (table, left-at v j, right-at v j) (in-rows j h);
   }
 
-  rows-tree : wholeTree (length v) lefts rights ≡ treeOf v
+  pub rows-tree : wholeTree (length v) (lefts v) (rights v) ≡ treeOf v
   rows-tree =
-      tree-whole (length v) lefts rights (ok .some-leaf) (omega (arith, left-count)) (omega (arith, right-count)) ∙ ap (tableTree (length v)) table ∙ pairs-tree v ok
+      tree-whole (length v) (lefts v) (rights v) (ok .some-leaf) (omega (arith, left-count)) (omega (arith, right-count)) ∙ ap (tableTree (length v)) table ∙ pairs-tree v ok
       ∙ sym (tree-by-pairs v ok)
-
-  text-count : length (textOf (wholeTree (length v) lefts rights)) ≡ textLength (length v)
-  text-count = ap (λ (t : Tree). length (textOf t)) rows-tree ∙ text-length (length v) (treeOf v) (tree-leaves v ok)
-
-  -- the words are those of the rows, and there is room for the text
-  pub text-fits : (words text : List ℕ) → Paired (length v) (vectorRows v) words → length text ≡ signPlaces → TextRoom (length v) lefts rights words text
-  text-fits words text P e = record {
-    given = record {
-      rows = rows-ordered;
-      leaf-words = P .leaf-words;
-      pair-word = λ j h. P .pair-words j h ∙ omega (arith, left-at j, right-at j);
-    };
-    whole = e;
-    room = omega (arith, text-count, text-length-most (length v) few);
-  }
-
-  module _ (text text′ : List ℕ) (k : ℕ) (S : Stands (textOf (wholeTree (length v) lefts rights)) 0 text text′ k) where
-    pub text-end : k ≡ textLength (length v)
-    text-end = S .end ∙ omega (arith, text-count)
-
-    -- what is copied out is the text of v's tree
-    pub text-there : (out out′ : List ℕ) → out′ ≡ take k text′ ++ drop k out → out′ ≡ textOf (treeOf v) ++ drop (textLength (length v)) out
-    text-there out out′ e =
-        e ∙ ap₂ (λ (t : List ℕ) (j : ℕ). t ++ drop j out) (S .front ∙ ap textOf rows-tree) text-end
