@@ -61,7 +61,7 @@ write-node-element-copy-out-w-2 : (t : ℕ) → write-node-lts.Need-element-copy
 write-node-element-copy-out-w-2 t c = search needs
 
 write-node-cast-write-node : (t : ℕ) → write-node-lts.Need-cast-write-node (calls t) (write-node-at t) write-node.Post
-write-node-cast-write-node t c = search needs
+write-node-cast-write-node t c = omega (arith, word-fits (c .before .before .before .pre .1 .3) (c .before .if1 .left))
 
 write-node-add-write-node : (t : ℕ) → write-node-lts.Need-add-write-node (calls t) (write-node-at t) write-node.Post
 write-node-add-write-node t c = search needs
