@@ -4,64 +4,64 @@ use rules::Answer;
 
 pub fn check(index: usize, v: &[u16]) {
     answer(index, 1, trees::check(v));
-    say::byte(b'\n');
+    printing::byte(b'\n');
 }
 
 pub fn to_table(index: usize, v: &[u16], out: &mut [u16]) {
     answer(index, 2, trees::to_table(v, out));
     hash_numbers(out);
-    say::byte(b'\n');
+    printing::byte(b'\n');
 }
 
 pub fn from_table(index: usize, leaves: usize, rows: &[u16], out: &mut [u16]) {
     answer(index, 3, trees::from_table(leaves, rows, out));
     hash_numbers(out);
-    say::byte(b'\n');
+    printing::byte(b'\n');
 }
 
 pub fn to_newick(index: usize, v: &[u16], out: &mut [u8]) {
     answer(index, 4, trees::to_newick(v, out));
     hash_bytes(out);
-    say::byte(b'\n');
+    printing::byte(b'\n');
 }
 
 pub fn from_newick(index: usize, text: &[u8], out: &mut [u16]) {
     answer(index, 5, trees::from_newick(text, out));
     hash_numbers(out);
-    say::byte(b'\n');
+    printing::byte(b'\n');
 }
 
 pub fn pack(index: usize, v: &[u16], out: &mut [u8]) {
     answer(index, 6, trees::pack(v, out));
     hash_bytes(out);
-    say::byte(b'\n');
+    printing::byte(b'\n');
 }
 
 pub fn unpack(index: usize, record: &[u8], out: &mut [u16]) {
     answer(index, 7, trees::unpack(record, out));
     hash_numbers(out);
-    say::byte(b'\n');
+    printing::byte(b'\n');
 }
 
 pub fn shuffle(index: usize, v: &[u16], new: &mut [u16], out: &mut [u16]) {
     answer(index, 8, trees::shuffle(v, new, out));
     hash_numbers(new);
     hash_numbers(out);
-    say::byte(b'\n');
+    printing::byte(b'\n');
 }
 
 pub fn relabel(index: usize, v: &[u16], p: &[u16], out: &mut [u16]) {
     answer(index, 9, trees::relabel(v, p, out));
     hash_numbers(out);
-    say::byte(b'\n');
+    printing::byte(b'\n');
 }
 
 fn answer(index: usize, call: usize, given: Answer) {
-    say::number(index);
-    say::byte(b' ');
-    say::number(call);
-    say::byte(b' ');
-    say::answer(given);
+    printing::number(index);
+    printing::byte(b' ');
+    printing::number(call);
+    printing::byte(b' ');
+    printing::answer(given);
 }
 
 fn hash_bytes(xs: &[u8]) {
@@ -87,7 +87,7 @@ fn hash_numbers(xs: &[u16]) {
 }
 
 fn hash(h: u64) {
-    say::byte(b' ');
+    printing::byte(b' ');
     io::print_hex(1, h, 8);
 }
 

@@ -23,7 +23,7 @@ fn hand_back(given: Answer, back: &mut [u64; 2])
         }
         Answer::Refused(why) => {
             let kind = why.kind;
-            *back = [kinds::number_of(kind), why.place as u64];
+            *back = [refusal_numbers::number_of(kind), why.place as u64];
         }
     }
 }

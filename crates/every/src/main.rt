@@ -31,7 +31,7 @@ fn vectors(v: &mut [u16])
 {
     let mut left: u32 = 945;
     while 0 < left {
-        lines::there_and_back(v);
+        call_lines::there_and_back(v);
         if !next(v) {
             return;
         }

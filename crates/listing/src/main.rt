@@ -28,11 +28,11 @@ fn list(held: &mut [u8], vector: &mut [u16], out: &mut [u8])
         }
         let given = trees::unpack(&held[..k], vector);
         let Answer::Done(n) = given else {
-            say::answer(given);
-            say::byte(b'\n');
+            printing::answer(given);
+            printing::byte(b'\n');
             return;
         };
-        let end = line::write_line(&vector[..n], out);
+        let end = listing_line::write_line(&vector[..n], out);
         if !io::write_all(1, &out[..end]) {
             return;
         }

@@ -1,8 +1,8 @@
 // The samples of the rules and their refused inputs, a line for each call.
 
 fn sample(v: &[u16]) {
-    lines::check(v);
-    lines::there_and_back(v);
+    call_lines::check(v);
+    call_lines::there_and_back(v);
 }
 
 fn samples() {
@@ -20,12 +20,12 @@ fn samples() {
 fn refused_vector(v: &[u16], p: &[u16]) {
     let mut numbers = [0u16; 3069];
     let mut bytes = [0u8; 6056];
-    lines::check(v);
-    lines::to_table(v, &mut numbers);
-    lines::to_newick(v, &mut bytes);
-    lines::pack(v, &mut bytes);
-    lines::shuffle(v);
-    lines::relabel(v, p);
+    call_lines::check(v);
+    call_lines::to_table(v, &mut numbers);
+    call_lines::to_newick(v, &mut bytes);
+    call_lines::pack(v, &mut bytes);
+    call_lines::shuffle(v);
+    call_lines::relabel(v, p);
 }
 
 fn identity(p: &mut [u16]) {
@@ -47,20 +47,20 @@ fn refused_vectors() {
 }
 
 fn refused_texts() {
-    lines::from_newick(b"");
-    lines::from_newick(b"01;");
-    lines::from_newick(b"(0,1)");
-    lines::from_newick(b"(0,1,2);");
-    lines::from_newick(b"12345;");
-    lines::from_newick(b"(0,0);");
-    lines::from_newick(b"5;");
+    call_lines::from_newick(b"");
+    call_lines::from_newick(b"01;");
+    call_lines::from_newick(b"(0,1)");
+    call_lines::from_newick(b"(0,1,2);");
+    call_lines::from_newick(b"12345;");
+    call_lines::from_newick(b"(0,0);");
+    call_lines::from_newick(b"5;");
 }
 
 fn main() {
     samples();
-    lines::from_table(4, &[1, 0, 4, 3, 2, 5, 5, 4, 6]);
-    lines::relabel(&[0, 0, 1, 4], &[1, 0, 2, 3]);
+    call_lines::from_table(4, &[1, 0, 4, 3, 2, 5, 5, 4, 6]);
+    call_lines::relabel(&[0, 0, 1, 4], &[1, 0, 2, 3]);
     refused_vectors();
     refused_texts();
-    lines::unpack(&[0x00, 0x41]);
+    call_lines::unpack(&[0x00, 0x41]);
 }

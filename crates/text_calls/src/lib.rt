@@ -16,11 +16,11 @@ pub fn to_newick(v: &[u16], out: &mut [u8]) -> Answer
     match check(v) {
         Answer::Refused(why) => Answer::Refused(why),
         Answer::Done(_) => {
-            let signs = texts::text_length(v.len());
+            let signs = tree_text::text_length(v.len());
             if out.len() < signs {
                 return refuse(Kind::Room, signs);
             }
-            texts::write_tree(v, out);
+            tree_text::write_tree(v, out);
             Answer::Done(signs)
         }
     }

@@ -1,3 +1,2 @@
-pub mod Writing
-pub mod Tens
+pub mod Standing
 pub mod Nodes

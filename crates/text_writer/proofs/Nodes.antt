@@ -1,41 +1,31 @@
 -- A node that is written: a leaf by its word, a pair child by child.
 -- Main results: leaf-room, leaf-wrote, open-room, first-room, comma-room, second-room, close-room, pair-stands, root-room, end-room, text-stands.
-use mathlib.Core.Bool.{Bool, true, false, cond}
 use mathlib.Core.List.{List}
 use mathlib.Core.Path.{_≡_, sym, ap, subst, subst₂, _∙_}
 use Prim.Native.Nat.{ℕ, _+_, _-_, _*_, _/_, _%_, _≤_, _<_}
 use native.Mathlib.Omega.{arith}
-use lib.Dec.{ltb}
 use lib.ListN.{length, getD, set, length-set}
 use lib.Seq.{sets}
 use borrow.Author.Tests.{lt-ltb}
 use Rattle.rules.specs.Newick.{digits, pairText, nodeText, textOf}
 use Rattle.rules.specs.Tree.{node, least}
 use Rattle.table_laws.specs.Tied.{treeAt, wholeTree, tree-leaf, tree-pair}
-use Rattle.grammar.specs.Decimal.{digitCount, digits-length}
 use Rattle.grammar.specs.Length.{pair-length}
-use Rattle.text_writer.specs.Words.{wordOf, wordBytes, signCount, word-signs, word-bytes}
-use Rattle.text_writer.specs.Output.{Words, NodeRoom, TextRoom, Stands}
-use Rattle.text_writer.proofs.Writing.{stands-sign, stands-then, stands-first, text-room}
-
-some-digits : (x : ℕ) → (1 ≤ length (digits 4 x)) × (length (digits 4 x) ≤ 4)
-unfolding digitCount
-some-digits x = subst (λ (k : ℕ). (1 ≤ k) × (k ≤ 4)) (sym (digits-length x)) (go (ltb x 10) (ltb x 100) (ltb x 1000))
-  where
-    go : (a b c : Bool) → (1 ≤ cond a 1 (cond b 2 (cond c 3 4))) × (cond a 1 (cond b 2 (cond c 3 4)) ≤ 4)
-    go true b c = (omega arith, omega arith)
-    go false true c = (omega arith, omega arith)
-    go false false true = (omega arith, omega arith)
-    go false false false = (omega arith, omega arith)
+use Rattle.digits.specs.Count.{some-digit, digits-at-most}
+use Rattle.label_words.specs.Words.{wordOf}
+use Rattle.label_words.specs.Leaves.{leavesPlace}
+use Rattle.text_writer.specs.Signs.{wordBytes, signCount, word-signs, word-bytes}
+use Rattle.text_writer.specs.Output.{signPlaces, NodeWords, NodeRoom, TextRoom, Stands}
+use Rattle.text_writer.proofs.Standing.{stands-sign, stands-then, stands-first, text-room}
 
 module _ {n : ℕ} {left right words : List ℕ} {k : ℕ} {text : List ℕ} {at : ℕ} (P : NodeRoom n left right words k text at) where
-  W : Words n left right words
+  W : NodeWords n left right words
   W = P .given
 
   abbrev textAt : ℕ → List ℕ
   textAt c = nodeText (treeAt n left right c)
 
-  module _ (h : k < getD words 2047 0) where
+  module _ (h : k < getD words leavesPlace 0) where
     leaf : k < n
     leaf = omega (arith, W .leaf-words .leaves)
 
@@ -43,8 +33,8 @@ module _ {n : ℕ} {left right words : List ℕ} {k : ℕ} {text : List ℕ} {at
     unfolding nodeText
     leaf-text = rw (tree-leaf n left right k leaf)
 
-    pub leaf-room : at + 4 ≤ 6144
-    leaf-room = omega (arith, P .room, ap length leaf-text, some-digits k .0)
+    pub leaf-room : at + 4 ≤ signPlaces
+    leaf-room = omega (arith, P .room, ap length leaf-text, some-digit 3 k)
 
     pub leaf-stands : Stands (textAt k) at text (sets text at (wordBytes (getD words k 0))) (at + signCount (getD words k 0))
     leaf-stands =
@@ -53,16 +43,16 @@ module _ {n : ℕ} {left right words : List ℕ} {k : ℕ} {text : List ℕ} {at
         let e : getD words k 0 ≡ wordOf k = W .leaf-words .labels k leaf in
         subst (λ (w : ℕ). Stands (textAt k) at text (sets text at (wordBytes w)) (at + signCount w)) (sym e)
         (subst₂ (λ (s : List ℕ) (j : ℕ). Stands s at text (sets text at (wordBytes (wordOf k))) (at + j)) (word-bytes k small ∙ sym leaf-text) (sym d)
-        (stands-first text at (length (digits 4 k)) (wordBytes (wordOf k)) (omega (arith, leaf-room, P .whole)) (some-digits k .1)))
+        (stands-first text at (length (digits 4 k)) (wordBytes (wordOf k)) (omega (arith, leaf-room, P .whole)) (digits-at-most 4 k)))
 
     -- and so does what is the same
     pub leaf-wrote : {text₁ : List ℕ} {j : ℕ} → text₁ ≡ sets text at (wordBytes (getD words k 0)) → j ≡ signCount (getD words k 0) → Stands (textAt k) at text text₁ (at + j)
     leaf-wrote e f = subst₂ (λ (l : List ℕ) (j : ℕ). Stands (textAt k) at text l (at + j)) (sym e) (sym f) leaf-stands
 
-    pub leaf-end : at + signCount (getD words k 0) ≤ 6144
+    pub leaf-end : at + signCount (getD words k 0) ≤ signPlaces
     leaf-end = omega (arith, leaf-stands .end, P .room)
 
-  module _ (h′ : getD words 2047 0 ≤ k) where
+  module _ (h′ : getD words leavesPlace 0 ≤ k) where
     h : n ≤ k
     h = omega (arith, W .leaf-words .leaves)
 
@@ -107,30 +97,30 @@ module _ {n : ℕ} {left right words : List ℕ} {k : ℕ} {text : List ℕ} {at
         ap (treeAt n left right) e ∙ tree-pair n left right (k - n) row (o .lefts-there) (o .rights-there) (o .left-below (k - n) row) (o .right-below (k - n) row) in
         rw (t, lt-ltb (least (treeAt n left right (getD left (k - n) 0))) (least (treeAt n left right (getD right (k - n) 0))) (o .smaller-first (k - n) row), left-is, right-is)
 
-    pair-room : at + (length (textAt l) + length (textAt r) + 3) + 3 ≤ 6144
+    pair-room : at + (length (textAt l) + length (textAt r) + 3) + 3 ≤ signPlaces
     pair-room = omega (arith, P .room, ap length pair-text, pair-length (textAt l) (textAt r))
 
-    pub open-room : at < 6144
+    pub open-room : at < signPlaces
     open-room = omega (arith, pair-room)
 
     pub first-room : NodeRoom n left right words l (set text at 40) (at + 1)
     first-room = record { given = W; there = omega (arith, left-child, P .there); whole = length-set text at 40 ∙ P .whole; room = omega (arith, pair-room) }
 
     module _ {text₁ : List ℕ} {x : ℕ} (F : Stands (textAt l) (at + 1) (set text at 40) text₁ x) where
-      pub first-whole : length text₁ ≡ 6144
+      pub first-whole : length text₁ ≡ signPlaces
       first-whole = F .whole ∙ length-set text at 40 ∙ P .whole
 
-      pub comma-room : x < 6144
+      pub comma-room : x < signPlaces
       comma-room = omega (arith, pair-room, F .end)
 
       pub second-room : NodeRoom n left right words r (set text₁ x 44) (x + 1)
       second-room = record { given = W; there = omega (arith, right-child, P .there); whole = length-set text₁ x 44 ∙ first-whole; room = omega (arith, pair-room, F .end) }
 
       module _ {text₂ : List ℕ} {y : ℕ} (S : Stands (textAt r) (x + 1) (set text₁ x 44) text₂ y) where
-        pub second-whole : length text₂ ≡ 6144
+        pub second-whole : length text₂ ≡ signPlaces
         second-whole = S .whole ∙ length-set text₁ x 44 ∙ first-whole
 
-        pub close-room : y < 6144
+        pub close-room : y < signPlaces
         close-room = omega (arith, pair-room, F .end, S .end)
 
         pub pair-stands : Stands (textAt k) at text (set text₂ y 41) (y + 1)
@@ -143,9 +133,6 @@ module _ {n : ℕ} {left right words : List ℕ} {k : ℕ} {text : List ℕ} {at
 
 -- the whole text
 module _ {n : ℕ} {left right words text : List ℕ} (T : TextRoom n left right words text) where
-  root : ℕ
-  root = n + (n - 1) - 1
-
   pub root-room : NodeRoom n left right words (n + (n - 1) - 1) text 0
   unfolding wholeTree
   root-room =
@@ -157,7 +144,7 @@ module _ {n : ℕ} {left right words text : List ℕ} (T : TextRoom n left right
       }
 
   module _ {text₁ : List ℕ} {x : ℕ} (S : Stands (nodeText (treeAt n left right (n + (n - 1) - 1))) 0 text text₁ x) where
-    pub end-room : (x < 6144) × (length text₁ ≡ 6144)
+    pub end-room : (x < signPlaces) × (length text₁ ≡ signPlaces)
     unfolding wholeTree
     end-room = (omega (arith, S .end, T .room, text-room (treeAt n left right (n + (n - 1) - 1))), S .whole ∙ T .whole)
 

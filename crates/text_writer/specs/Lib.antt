@@ -1,2 +1,2 @@
-pub mod Words
+pub mod Signs
 pub mod Output

@@ -5,7 +5,7 @@ use Rattle.capi.proofs.hand_back.Statement.{statement}
 use Rattle.capi.proofs.hand_back.Tie as tie
 use Rattle.capi.proofs.hand_back.Reads as reads
 use Rattle.capi.proofs.hand_back.Lts as lts
-use Rattle.kinds.proofs.number_of.Reads as number-of-reads
+use Rattle.refusal_numbers.proofs.number_of.Reads as number-of-reads
 
 enum-known-given : tie.Need-enum-known-given
 enum-known-given c = search needs

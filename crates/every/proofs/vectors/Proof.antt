@@ -8,7 +8,7 @@ use Rattle.every.proofs.vectors.Tie as tie
 use Rattle.every.proofs.vectors.Reads as reads
 use Rattle.every.proofs.vectors.Lts as lts
 use Rattle.every.proofs.next.Reads as next-reads
-use Rattle.lines.proofs.there_and_back.Reads as there-and-back-reads
+use Rattle.call_lines.proofs.there_and_back.Reads as there-and-back-reads
 
 abbrev Inv-loop : tie.InvT-loop
 Inv-loop v₀ left₀ v left = (length v ≡ length v₀) × (length v₀ ≤ 6)

@@ -5,7 +5,7 @@ use mathlib.Core.Path.{_≡_}
 use lib.ListN.{length}
 use Rattle.holding.specs.Turn.{Accepted, accepted}
 use Rattle.io.proofs.Counting.{front}
-use Rattle.line.specs.Longest.{line-fits}
+use Rattle.listing_line.specs.Longest.{line-fits}
 use Rattle.listing.proofs.list.Statement.{statement}
 use Rattle.listing.proofs.list.Tie as tie
 

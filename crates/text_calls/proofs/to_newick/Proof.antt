@@ -10,8 +10,8 @@ use Rattle.text_calls.proofs.to_newick.Statement.{statement}
 use Rattle.text_calls.proofs.to_newick.Tie as tie
 use Rattle.text_calls.proofs.to_newick.Reads as reads
 use Rattle.text_calls.proofs.to_newick.Lts as lts
-use Rattle.texts.proofs.text_length.Reads as text-length-reads
-use Rattle.texts.proofs.write_tree.Reads as write-tree-reads
+use Rattle.tree_text.proofs.text_length.Reads as text-length-reads
+use Rattle.tree_text.proofs.write_tree.Reads as write-tree-reads
 use Rattle.vector_calls.proofs.check.Reads as check-reads
 use Rattle.answering.proofs.refuse.Reads as refuse-reads
 

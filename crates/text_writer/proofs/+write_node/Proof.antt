@@ -23,241 +23,100 @@ abbrev write-node-below : ℕ → In 2 write-node-kinds.ps
 write-node-below t =
     and 2 write-node-kinds.ps (falls 2 write-node-kinds.ps _<_ μ-write-node t) write-node.Pre
 
-write-node-element-copy-out-if1 : (t : ℕ) → write-node-lts.Need-element-copy-out-if1 (
-  put-word-reads.Asked,
-  put-word-reads.Learnt,
-  sign-count-reads.Asked,
-  sign-count-reads.Learnt,
-  write-node-below t,
-  write-node.Post,
-) (write-node-at t) write-node.Post
+-- what is asked of the calls and what they give: of the two small functions, and of this one for a lower node
+abbrev calls : ℕ → write-node-lts.Claims
+calls t = (put-word-reads.Asked, put-word-reads.Learnt, sign-count-reads.Asked, sign-count-reads.Learnt, write-node-below t, write-node.Post)
+
+write-node-element-copy-out-if1 : (t : ℕ) → write-node-lts.Need-element-copy-out-if1 (calls t) (write-node-at t) write-node.Post
 write-node-element-copy-out-if1 t c = search needs
 
-write-node-cast-if1 : (t : ℕ) → write-node-lts.Need-cast-if1 (
-  put-word-reads.Asked,
-  put-word-reads.Learnt,
-  sign-count-reads.Asked,
-  sign-count-reads.Learnt,
-  write-node-below t,
-  write-node.Post,
-) (write-node-at t) write-node.Post
+write-node-cast-if1 : (t : ℕ) → write-node-lts.Need-cast-if1 (calls t) (write-node-at t) write-node.Post
 write-node-cast-if1 t c = search needs
 
-write-node-mul-w : (t : ℕ) → write-node-lts.Need-mul-w (
-  put-word-reads.Asked,
-  put-word-reads.Learnt,
-  sign-count-reads.Asked,
-  sign-count-reads.Learnt,
-  write-node-below t,
-  write-node.Post,
-) (write-node-at t) write-node.Post
+write-node-mul-w : (t : ℕ) → write-node-lts.Need-mul-w (calls t) (write-node-at t) write-node.Post
 write-node-mul-w t c = search needs
 
-write-node-element-copy-out-w : (t : ℕ) → write-node-lts.Need-element-copy-out-w (
-  put-word-reads.Asked,
-  put-word-reads.Learnt,
-  sign-count-reads.Asked,
-  sign-count-reads.Learnt,
-  write-node-below t,
-  write-node.Post,
-) (write-node-at t) write-node.Post
+write-node-element-copy-out-w : (t : ℕ) → write-node-lts.Need-element-copy-out-w (calls t) (write-node-at t) write-node.Post
 write-node-element-copy-out-w t c = search needs
 
-write-node-put-word-requires : (t : ℕ) → write-node-lts.Need-put-word-requires (
-  put-word-reads.Asked,
-  put-word-reads.Learnt,
-  sign-count-reads.Asked,
-  sign-count-reads.Learnt,
-  write-node-below t,
-  write-node.Post,
-) (write-node-at t) write-node.Post
+write-node-put-word-requires : (t : ℕ) → write-node-lts.Need-put-word-requires (calls t) (write-node-at t) write-node.Post
 write-node-put-word-requires t c κs = (leaf-room (c .before .before .before .before .pre .1 .3) (c .before .before .if1 .taken), (c .before .before .before .before .pre .1 .3) .whole)
 
-write-node-sign-count-requires : (t : ℕ) → write-node-lts.Need-sign-count-requires (
-  put-word-reads.Asked,
-  put-word-reads.Learnt,
-  sign-count-reads.Asked,
-  sign-count-reads.Learnt,
-  write-node-below t,
-  write-node.Post,
-) (write-node-at t) write-node.Post
+write-node-sign-count-requires : (t : ℕ) → write-node-lts.Need-sign-count-requires (calls t) (write-node-at t) write-node.Post
 write-node-sign-count-requires t c κs = search needs
 
-write-node-add-result : (t : ℕ) → write-node-lts.Need-add-result (
-  put-word-reads.Asked,
-  put-word-reads.Learnt,
-  sign-count-reads.Asked,
-  sign-count-reads.Learnt,
-  write-node-below t,
-  write-node.Post,
-) (write-node-at t) write-node.Post
+write-node-add-result : (t : ℕ) → write-node-lts.Need-add-result (calls t) (write-node-at t) write-node.Post
 write-node-add-result t c = omega (arith, leaf-end (c .before .before .before .before .before .before .pre .1 .3) (c .before .before .before .before .if1 .taken), c .sign-count .ensures)
 
-write-node-returns : (t : ℕ) → write-node-lts.Need-returns (
-  put-word-reads.Asked,
-  put-word-reads.Learnt,
-  sign-count-reads.Asked,
-  sign-count-reads.Learnt,
-  write-node-below t,
-  write-node.Post,
-) (write-node-at t) write-node.Post
+write-node-returns : (t : ℕ) → write-node-lts.Need-returns (calls t) (write-node-at t) write-node.Post
 write-node-returns t c = λ n left right Q. leaf-wrote Q (c .before .before .before .before .if1 .taken) (c .before .put-word .ensures) (c .sign-count .ensures)
 
-write-node-element-write-text : (t : ℕ) → write-node-lts.Need-element-write-text (
-  put-word-reads.Asked,
-  put-word-reads.Learnt,
-  sign-count-reads.Asked,
-  sign-count-reads.Learnt,
-  write-node-below t,
-  write-node.Post,
-) (write-node-at t) write-node.Post
+write-node-element-write-text : (t : ℕ) → write-node-lts.Need-element-write-text (calls t) (write-node-at t) write-node.Post
 write-node-element-write-text t c = search needs
 
-write-node-mul-w-2 : (t : ℕ) → write-node-lts.Need-mul-w-2 (
-  put-word-reads.Asked,
-  put-word-reads.Learnt,
-  sign-count-reads.Asked,
-  sign-count-reads.Learnt,
-  write-node-below t,
-  write-node.Post,
-) (write-node-at t) write-node.Post
+write-node-mul-w-2 : (t : ℕ) → write-node-lts.Need-mul-w-2 (calls t) (write-node-at t) write-node.Post
 write-node-mul-w-2 t c = search needs
 
-write-node-element-copy-out-w-2 : (t : ℕ) → write-node-lts.Need-element-copy-out-w-2 (
-  put-word-reads.Asked,
-  put-word-reads.Learnt,
-  sign-count-reads.Asked,
-  sign-count-reads.Learnt,
-  write-node-below t,
-  write-node.Post,
-) (write-node-at t) write-node.Post
+write-node-element-copy-out-w-2 : (t : ℕ) → write-node-lts.Need-element-copy-out-w-2 (calls t) (write-node-at t) write-node.Post
 write-node-element-copy-out-w-2 t c = search needs
 
-write-node-cast-write-node : (t : ℕ) → write-node-lts.Need-cast-write-node (
-  put-word-reads.Asked,
-  put-word-reads.Learnt,
-  sign-count-reads.Asked,
-  sign-count-reads.Learnt,
-  write-node-below t,
-  write-node.Post,
-) (write-node-at t) write-node.Post
-write-node-cast-write-node t c = search needs
+write-node-cast-write-node : (t : ℕ) → write-node-lts.Need-cast-write-node (calls t) (write-node-at t) write-node.Post
+write-node-cast-write-node t c = omega (arith, word-fits (c .before .before .before .pre .1 .3) (c .before .if1 .left))
 
-write-node-add-write-node : (t : ℕ) → write-node-lts.Need-add-write-node (
-  put-word-reads.Asked,
-  put-word-reads.Learnt,
-  sign-count-reads.Asked,
-  sign-count-reads.Learnt,
-  write-node-below t,
-  write-node.Post,
-) (write-node-at t) write-node.Post
+write-node-add-write-node : (t : ℕ) → write-node-lts.Need-add-write-node (calls t) (write-node-at t) write-node.Post
 write-node-add-write-node t c = search needs
 
-write-node-write-node-requires : (t : ℕ) → write-node-lts.Need-write-node-requires (
-  put-word-reads.Asked,
-  put-word-reads.Learnt,
-  sign-count-reads.Asked,
-  sign-count-reads.Learnt,
-  write-node-below t,
-  write-node.Post,
-) (write-node-at t) write-node.Post
-write-node-write-node-requires t c κs = let start = c .before .before .before .before in
-    (omega (arith, left-child (start .pre .1 .3) (c .before .before .if1 .left)), ((start .pre .1 .0), (start .pre .1 .1), (start .pre .1 .2), first-room (start .pre .1 .3) (c .before .before .if1 .left)))
+write-node-write-node-requires : (t : ℕ) → write-node-lts.Need-write-node-requires (calls t) (write-node-at t) write-node.Post
+write-node-write-node-requires t c κs =
+    let pair = c .before .before .if1 .left in
+    let (n, left, right, P) = c .before .before .before .before .pre .1 in
+    (omega (arith, left-child P pair), (n, left, right, first-room P pair))
 
-write-node-element-write-text-2 : (t : ℕ) → write-node-lts.Need-element-write-text-2 (
-  put-word-reads.Asked,
-  put-word-reads.Learnt,
-  sign-count-reads.Asked,
-  sign-count-reads.Learnt,
-  write-node-below t,
-  write-node.Post,
-) (write-node-at t) write-node.Post
-write-node-element-write-text-2 t c = let at-if1 = c .before .before .before in
-    let start = c .before .before .before .before .before in
-    comma-room (start .pre .1 .3) (at-if1 .if1 .left) (c .write-node .ensures (start .pre .1 .0) (start .pre .1 .1) (start .pre .1 .2) (first-room (start .pre .1 .3) (at-if1 .if1 .left)))
+write-node-element-write-text-2 : (t : ℕ) → write-node-lts.Need-element-write-text-2 (calls t) (write-node-at t) write-node.Post
+write-node-element-write-text-2 t c =
+    let pair = c .before .before .before .if1 .left in
+    let (n, left, right, P) = c .before .before .before .before .before .pre .1 in
+    comma-room P pair (c .write-node .ensures n left right (first-room P pair))
 
-write-node-cast-write-node-2 : (t : ℕ) → write-node-lts.Need-cast-write-node-2 (
-  put-word-reads.Asked,
-  put-word-reads.Learnt,
-  sign-count-reads.Asked,
-  sign-count-reads.Learnt,
-  write-node-below t,
-  write-node.Post,
-) (write-node-at t) write-node.Post
+write-node-cast-write-node-2 : (t : ℕ) → write-node-lts.Need-cast-write-node-2 (calls t) (write-node-at t) write-node.Post
 write-node-cast-write-node-2 t c = omega (arith, word-fits (c .before .before .before .before .before .pre .1 .3) (c .before .before .before .if1 .left))
 
-write-node-add-write-node-2 : (t : ℕ) → write-node-lts.Need-add-write-node-2 (
-  put-word-reads.Asked,
-  put-word-reads.Learnt,
-  sign-count-reads.Asked,
-  sign-count-reads.Learnt,
-  write-node-below t,
-  write-node.Post,
-) (write-node-at t) write-node.Post
-write-node-add-write-node-2 t c = let at-if1 = c .before .before .before .before in
-    let start = c .before .before .before .before .before .before in
-    omega (arith, comma-room (start .pre .1 .3) (at-if1 .if1 .left) (c .before .write-node .ensures (start .pre .1 .0) (start .pre .1 .1) (start .pre .1 .2) (first-room (start .pre .1 .3) (at-if1 .if1 .left))))
+write-node-add-write-node-2 : (t : ℕ) → write-node-lts.Need-add-write-node-2 (calls t) (write-node-at t) write-node.Post
+write-node-add-write-node-2 t c =
+    let pair = c .before .before .before .before .if1 .left in
+    let (n, left, right, P) = c .before .before .before .before .before .before .pre .1 in
+    omega (arith, comma-room P pair (c .before .write-node .ensures n left right (first-room P pair)))
 
-write-node-write-node-requires-2 : (t : ℕ) → write-node-lts.Need-write-node-requires-2 (
-  put-word-reads.Asked,
-  put-word-reads.Learnt,
-  sign-count-reads.Asked,
-  sign-count-reads.Learnt,
-  write-node-below t,
-  write-node.Post,
-) (write-node-at t) write-node.Post
-write-node-write-node-requires-2 t c κs = let at-if1 = c .before .before .before .before in
-    let start = c .before .before .before .before .before .before in
-    (omega (arith, right-child (start .pre .1 .3) (at-if1 .if1 .left)), ((start .pre .1 .0), (start .pre .1 .1), (start .pre .1 .2), second-room (start .pre .1 .3) (at-if1 .if1 .left) (c .before .write-node .ensures (start .pre .1 .0) (start .pre .1 .1) (start .pre .1 .2) (first-room (start .pre .1 .3) (at-if1 .if1 .left)))))
+write-node-write-node-requires-2 : (t : ℕ) → write-node-lts.Need-write-node-requires-2 (calls t) (write-node-at t) write-node.Post
+write-node-write-node-requires-2 t c κs =
+    let pair = c .before .before .before .before .if1 .left in
+    let (n, left, right, P) = c .before .before .before .before .before .before .pre .1 in
+    let first = c .before .write-node .ensures n left right (first-room P pair) in
+    (omega (arith, right-child P pair), (n, left, right, second-room P pair first))
 
-write-node-element-write-text-3 : (t : ℕ) → write-node-lts.Need-element-write-text-3 (
-  put-word-reads.Asked,
-  put-word-reads.Learnt,
-  sign-count-reads.Asked,
-  sign-count-reads.Learnt,
-  write-node-below t,
-  write-node.Post,
-) (write-node-at t) write-node.Post
-write-node-element-write-text-3 t c = let at-if1 = c .before .before .before .before .before in
-    let start = c .before .before .before .before .before .before .before in
-    let first = c .before .before .write-node .ensures (start .pre .1 .0) (start .pre .1 .1) (start .pre .1 .2) (first-room (start .pre .1 .3) (at-if1 .if1 .left)) in
-    let second = c .write-node2 .ensures (start .pre .1 .0) (start .pre .1 .1) (start .pre .1 .2) (second-room (start .pre .1 .3) (at-if1 .if1 .left) first) in
-    close-room (start .pre .1 .3) (at-if1 .if1 .left) first second
+write-node-element-write-text-3 : (t : ℕ) → write-node-lts.Need-element-write-text-3 (calls t) (write-node-at t) write-node.Post
+write-node-element-write-text-3 t c =
+    let pair = c .before .before .before .before .before .if1 .left in
+    let (n, left, right, P) = c .before .before .before .before .before .before .before .pre .1 in
+    let first = c .before .before .write-node .ensures n left right (first-room P pair) in
+    close-room P pair first (c .write-node2 .ensures n left right (second-room P pair first))
 
-write-node-add-result-2 : (t : ℕ) → write-node-lts.Need-add-result-2 (
-  put-word-reads.Asked,
-  put-word-reads.Learnt,
-  sign-count-reads.Asked,
-  sign-count-reads.Learnt,
-  write-node-below t,
-  write-node.Post,
-) (write-node-at t) write-node.Post
-write-node-add-result-2 t c = let at-if1 = c .before .before .before .before .before in
-    let start = c .before .before .before .before .before .before .before in
-    let first = c .before .before .write-node .ensures (start .pre .1 .0) (start .pre .1 .1) (start .pre .1 .2) (first-room (start .pre .1 .3) (at-if1 .if1 .left)) in
-    let second = c .write-node2 .ensures (start .pre .1 .0) (start .pre .1 .1) (start .pre .1 .2) (second-room (start .pre .1 .3) (at-if1 .if1 .left) first) in
-    omega (arith, close-room (start .pre .1 .3) (at-if1 .if1 .left) first second)
+write-node-add-result-2 : (t : ℕ) → write-node-lts.Need-add-result-2 (calls t) (write-node-at t) write-node.Post
+write-node-add-result-2 t c =
+    let pair = c .before .before .before .before .before .if1 .left in
+    let (n, left, right, P) = c .before .before .before .before .before .before .before .pre .1 in
+    let first = c .before .before .write-node .ensures n left right (first-room P pair) in
+    omega (arith, close-room P pair first (c .write-node2 .ensures n left right (second-room P pair first)))
 
-write-node-returns-2 : (t : ℕ) → write-node-lts.Need-returns-2 (
-  put-word-reads.Asked,
-  put-word-reads.Learnt,
-  sign-count-reads.Asked,
-  sign-count-reads.Learnt,
-  write-node-below t,
-  write-node.Post,
-) (write-node-at t) write-node.Post
-write-node-returns-2 t c = λ n left right Q. let f = c .before .before .write-node .ensures n left right (first-room Q (c .before .before .before .before .before .if1 .left)) in
-    pair-stands Q (c .before .before .before .before .before .if1 .left) f (c .write-node2 .ensures n left right (second-room Q (c .before .before .before .before .before .if1 .left) f))
+write-node-returns-2 : (t : ℕ) → write-node-lts.Need-returns-2 (calls t) (write-node-at t) write-node.Post
+write-node-returns-2 t c =
+    λ n left right P.
+    let pair = c .before .before .before .before .before .if1 .left in
+    let first = c .before .before .write-node .ensures n left right (first-room P pair) in
+    pair-stands P pair first (c .write-node2 .ensures n left right (second-room P pair first))
 
 pub +write-node-spec : {M : Type 1} → statement M
-+write-node-spec = close μ-write-node λ t. write-node-lts.spec (
-  put-word-reads.Asked,
-  put-word-reads.Learnt,
-  sign-count-reads.Asked,
-  sign-count-reads.Learnt,
-  write-node-below t,
-  write-node.Post,
-)
++write-node-spec = close μ-write-node λ t. write-node-lts.spec (calls t)
     (write-node-at t)
     write-node.Post
     (write-node-element-copy-out-if1 t)

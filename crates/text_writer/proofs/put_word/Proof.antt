@@ -1,9 +1,7 @@
-use Rattle.text_writer.proofs.Writing.{four-there}
+use Rattle.text_writer.proofs.Standing.{four-there}
 use borrow.Author.Needs.{needs}
 use Rattle.text_writer.proofs.put_word.Statement.{statement}
 use Rattle.text_writer.proofs.put_word.Tie as tie
-use Rattle.text_writer.proofs.put_word.Reads as reads
-use Rattle.text_writer.proofs.put_word.Lts as lts
 
 cast-text : tie.Need-cast-text
 cast-text c = search needs

@@ -1,10 +1,8 @@
 use mathlib.Core.Path.{refl, sym}
-use Rattle.text_writer.specs.Words.{few-signs, four-signs}
+use Rattle.text_writer.specs.Signs.{few-signs, four-signs}
 use borrow.Author.Needs.{needs}
 use Rattle.text_writer.proofs.sign_count.Statement.{statement}
 use Rattle.text_writer.proofs.sign_count.Tie as tie
-use Rattle.text_writer.proofs.sign_count.Reads as reads
-use Rattle.text_writer.proofs.sign_count.Lts as lts
 
 cast-result : tie.Need-cast-result
 cast-result c = search needs

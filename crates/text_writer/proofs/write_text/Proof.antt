@@ -3,9 +3,6 @@ use borrow.Author.Needs.{needs}
 use Rattle.text_writer.proofs.Nodes.{root-room, end-room, text-stands}
 use Rattle.text_writer.proofs.write_text.Statement.{statement}
 use Rattle.text_writer.proofs.write_text.Tie as tie
-use Rattle.text_writer.proofs.write_text.Reads as reads
-use Rattle.text_writer.proofs.write_text.Lts as lts
-use Rattle.text_writer.proofs.write_node.Reads as write-node-reads
 
 sub-root : tie.Need-sub-root
 sub-root c = search needs

@@ -1,0 +1,3 @@
+pub mod Words
+pub mod Longer
+pub mod Leaves

@@ -1,4 +1,0 @@
-pub mod Written
-pub mod Commas
-pub mod Parts
-pub mod Text

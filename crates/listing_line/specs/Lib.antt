@@ -1,0 +1,3 @@
+pub mod Parts
+pub mod Commas
+pub mod Longest
