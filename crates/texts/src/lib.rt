@@ -1,30 +1,17 @@
-// The text of a vector's tree, and the vector of a text's tree: what the public calls do between their checks.
-use newick::Read;
+// The text of a vector's tree: what the public call does between its checks.
 use numbers::wide;
 ghost use mathlib.Core.Path.{_≡_};
 ghost use mathlib.Core.List.{_++_};
 ghost use Prim.Native.Nat.{_+_, _-_, _*_, _≤_};
-ghost use lib.ListN.{length, take, drop};
+ghost use lib.ListN.{length, drop};
 ghost use Rattle.rules.specs.Vector.{Valid};
-ghost use Rattle.rules.specs.Tree.{Tree, treeOf};
-ghost use Rattle.rules.specs.Order.{vectorOf};
+ghost use Rattle.rules.specs.Tree.{treeOf};
 ghost use Rattle.rules.specs.Newick.{textOf};
 ghost use Rattle.grammar.specs.Length.{textLength};
-ghost use Rattle.newick.specs.Recorded.{TableOf, recordedRows};
 ghost use Rattle.table.specs.Numbered.{Held, heldRows};
 ghost use Rattle.texts.specs.Standing.{vectorRows};
 ghost use Rattle.texts.specs.Paired.{Paired};
 ghost use Rattle.text_writer.specs.Output.{LeafWords};
-ghost use Rattle.texts.specs.Given.{Gives};
-
-// What a text gives: a vector with so many entries; or the place where it breaks the grammar; or too many leaves; or the place
-// of the first label at fault.
-pub enum Given {
-    Entries(usize),
-    Breaks(usize),
-    TooMany,
-    Label(usize),
-}
 
 // How many numbers below n are k or above.
 fn reaching(n: usize, k: usize) -> usize
@@ -101,37 +88,4 @@ pub fn write_tree(v: &[u16], out: &mut [u8])
     tree_words(v, &mut words);
     let count = text_writer::write_text(&words, v.len(), &mut text);
     lists::copy_bytes(&text, count, out);
-}
-
-// The vector of the tree with n leaves whose pairs are recorded, at the front of vector.
-fn pairs_vector(m: &[u32], n: usize, vector: &mut [u16])
-    requires { ⌜ (1 ≤ n) × (n ≤ 1024) × (length (now m) ≡ 2576) × (n ≤ length (now vector)) ⌝ }
-    requires { ⌜ ((t : Tree) × TableOf n t (recordedRows n (drop 1040 (now m)))) ⌝ }
-    ensures { λ _. ⌜ ((t : Tree) → TableOf n t (recordedRows n (drop 1040 (now (m .entry)))) → now (vector .exit) ≡ vectorOf t ++ drop n (now (vector .entry))) ⌝ }
-{
-    let mut left = [0u16; 1024];
-    let mut right = [0u16; 1024];
-    newick::children(m, n, &mut left, &mut right);
-    reading::children_vector(n, &left, &right, vector);
-}
-
-// Reads a text: its vector, at the front of vector, or why it gives none.
-pub fn read_vector(s: &[u8], vector: &mut [u16]) -> Given
-    requires { ⌜ (length (now s) ≤ 6056) × (length (now vector) ≡ 1024) ⌝ }
-    ensures { λ r. ⌜ Gives (now (s .entry)) (now (vector .exit)) r ⌝ }
-{
-    let mut m = [0u32; 2576];
-    match newick::text(s, &mut m) {
-        Read::Broken(k) => Given::Breaks(k),
-        Read::Leaves(n) => {
-            if 1024 < n {
-                return Given::TooMany;
-            }
-            if !newick::each_once(&m, n) {
-                return Given::Label(newick::first_fault(s, n));
-            }
-            pairs_vector(&m, n, vector);
-            Given::Entries(n)
-        }
-    }
 }
