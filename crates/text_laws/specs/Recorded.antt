@@ -6,10 +6,8 @@ use mathlib.Core.List.{List, [], _∷_, _++_, map, append-assoc}
 use mathlib.Core.Option.{none}
 use Prim.Native.Nat.{ℕ, _+_, _-_, _*_, _/_, _%_, _≤_, _<_}
 use native.Mathlib.Omega.{arith}
-use lib.Dec.{eqb, ltb}
-use lib.ListN.{length, set, take, drop, length-map, length-append, length-set}
-use lib.Seq.{sets, sets-eq, take-at, drop-set-lt, drop-set-add, getD-set-same, getD-set-other}
-use borrow.Author.Tests.{eqb-true, eqb-false, ltb-true, ltb-false}
+use lib.ListN.{length, set, take, drop, length-map, length-append}
+use lib.Seq.{sets, sets-eq, take-at}
 use Rattle.rules.specs.Tree.{Tree, leaf, node, has, LeavesBelow}
 use Rattle.rules.specs.Table.{Row, tableFault, tableTree}
 use Rattle.grammar.specs.Labels.{map-append}

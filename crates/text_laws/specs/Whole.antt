@@ -1,12 +1,12 @@
 -- A text read whole: a node, the sign at its end, and nothing behind it. Main results: begin-start, text-broken, text-longer, text-took.
-use mathlib.Core.Path.{_≡_, refl, ap, ap₂, sym, subst, _∙_}
+use mathlib.Core.Path.{_≡_, ap, ap₂, sym, subst, _∙_}
 use mathlib.Core.List.{List, [], _∷_, _++_}
 use mathlib.Core.Logic.{inl, inr}
 use Prim.Native.Nat.{ℕ, _+_, _-_, _≤_, _<_}
 use native.Mathlib.Omega.{arith}
 use lib.ListN.{length, getD, drop, length-drop, drop-of-length-le, List·getD-eq-default}
 use Rattle.rules.specs.Newick.{levels, Text, text, Node, BreaksAt}
-use Rattle.grammar.specs.Reading.{broken, seq, andThen, sign, nothing, nodeRead, textRead}
+use Rattle.grammar.specs.Reading.{broken, seq, andThen, nothing, nodeRead, textRead}
 use Rattle.grammar.specs.Sound.{Reads, Outcome, sound-node}
 use Rattle.grammar.specs.Complete.{breaks-at}
 use Rattle.text_laws.specs.Cells.{cell, begun, brokenIn, begun-cells, broken-cell, break-before}

@@ -1,4 +1,3 @@
-use native.Mathlib.Omega.{arith}
 use borrow.Author.Needs.{needs}
 use Rattle.text_laws.specs.Cells.{pair-there}
 use Rattle.text_cells.proofs.close.Statement.{statement}

@@ -44,7 +44,9 @@ pair-at t = and 2 pair-kinds.ps (is 2 pair-kinds.ps μ-pair t) pair.Pre
 abbrev pair-below : ℕ → In 2 pair-kinds.ps
 pair-below t = and 2 pair-kinds.ps (falls 2 pair-kinds.ps _<_ μ-pair t) pair.Pre
 
-node-sign-requires : (t : ℕ) → node-lts.Need-sign-requires (
+-- what each of the two knows of the functions that it calls: of the other, for less that remains
+abbrev node-claims : ℕ → node-lts.Claims
+node-claims t = (
   sign-reads.Asked,
   sign-reads.Learnt,
   broken-reads.Asked,
@@ -55,341 +57,117 @@ node-sign-requires : (t : ℕ) → node-lts.Need-sign-requires (
   leaf-reads.Learnt,
   pair-below t,
   pair.Post,
-) (node-at t) node.Post
+)
+
+abbrev pair-claims : ℕ → pair-lts.Claims
+pair-claims t = (
+  broken-reads.Asked,
+  broken-reads.Learnt,
+  node-below t,
+  node.Post,
+  sign-reads.Asked,
+  sign-reads.Learnt,
+  close-reads.Asked,
+  close-reads.Learnt,
+)
+
+node-sign-requires : (t : ℕ) → node-lts.Need-sign-requires (node-claims t) (node-at t) node.Post
 node-sign-requires t c κs = omega (arith, (c .pre .1 .1) .within, (c .pre .1 .1) .short)
 
-node-broken-requires : (t : ℕ) → node-lts.Need-broken-requires (
-  sign-reads.Asked,
-  sign-reads.Learnt,
-  broken-reads.Asked,
-  broken-reads.Learnt,
-  label-reads.Asked,
-  label-reads.Learnt,
-  leaf-reads.Asked,
-  leaf-reads.Learnt,
-  pair-below t,
-  pair.Post,
-) (node-at t) node.Post
+node-broken-requires : (t : ℕ) → node-lts.Need-broken-requires (node-claims t) (node-at t) node.Post
 node-broken-requires t c κs = omega (arith, (c .before .before .before .before .pre .1 .1) .within, (c .before .before .before .before .pre .1 .1) .short)
 
-node-returns : (t : ℕ) → node-lts.Need-returns (
-  sign-reads.Asked,
-  sign-reads.Learnt,
-  broken-reads.Asked,
-  broken-reads.Learnt,
-  label-reads.Asked,
-  label-reads.Learnt,
-  leaf-reads.Asked,
-  leaf-reads.Learnt,
-  pair-below t,
-  pair.Post,
-) (node-at t) node.Post
+node-returns : (t : ℕ) → node-lts.Need-returns (node-claims t) (node-at t) node.Post
 node-returns t c = λ u y. inr (broke-here y _ (λ q. omega (arith, c .before .before .before .before .sign .ensures, c .before .before .if2 .taken)) (ap isDigit (sym (c .before .before .before .before .sign .ensures)) ∙ no-digit-above _ (c .before .before .if2 .taken)) (c .broken .ensures))
 
-node-label-requires : (t : ℕ) → node-lts.Need-label-requires (
-  sign-reads.Asked,
-  sign-reads.Learnt,
-  broken-reads.Asked,
-  broken-reads.Learnt,
-  label-reads.Asked,
-  label-reads.Learnt,
-  leaf-reads.Asked,
-  leaf-reads.Learnt,
-  pair-below t,
-  pair.Post,
-) (node-at t) node.Post
+node-label-requires : (t : ℕ) → node-lts.Need-label-requires (node-claims t) (node-at t) node.Post
 node-label-requires t c κs = (omega (arith, (c .before .before .before .before .pre .1 .1) .within, (c .before .before .before .before .pre .1 .1) .short), c .before .before .before .sign .ensures, c .before .before .if1 .taken, c .before .if2 .left)
 
-node-returns-2 : (t : ℕ) → node-lts.Need-returns-2 (
-  sign-reads.Asked,
-  sign-reads.Learnt,
-  broken-reads.Asked,
-  broken-reads.Learnt,
-  label-reads.Asked,
-  label-reads.Learnt,
-  leaf-reads.Asked,
-  leaf-reads.Learnt,
-  pair-below t,
-  pair.Post,
-) (node-at t) node.Post
+node-returns-2 : (t : ℕ) → node-lts.Need-returns-2 (node-claims t) (node-at t) node.Post
 node-returns-2 t c = λ u y. inl (took-label y _ (λ q. omega (arith, c .before .before .before .before .sign .ensures, c .before .before .before .if1 .taken)) (c .label .ensures u (y .same)))
 
-node-add-leaf : (t : ℕ) → node-lts.Need-add-leaf (
-  sign-reads.Asked,
-  sign-reads.Learnt,
-  broken-reads.Asked,
-  broken-reads.Learnt,
-  label-reads.Asked,
-  label-reads.Learnt,
-  leaf-reads.Asked,
-  leaf-reads.Learnt,
-  pair-below t,
-  pair.Post,
-) (node-at t) node.Post
+node-add-leaf : (t : ℕ) → node-lts.Need-add-leaf (node-claims t) (node-at t) node.Post
 node-add-leaf t c = search needs
 
-node-leaf-requires : (t : ℕ) → node-lts.Need-leaf-requires (
-  sign-reads.Asked,
-  sign-reads.Learnt,
-  broken-reads.Asked,
-  broken-reads.Learnt,
-  label-reads.Asked,
-  label-reads.Learnt,
-  leaf-reads.Asked,
-  leaf-reads.Learnt,
-  pair-below t,
-  pair.Post,
-) (node-at t) node.Post
+node-leaf-requires : (t : ℕ) → node-lts.Need-leaf-requires (node-claims t) (node-at t) node.Post
 node-leaf-requires t c κs = search needs
 
-node-returns-3 : (t : ℕ) → node-lts.Need-returns-3 (
-  sign-reads.Asked,
-  sign-reads.Learnt,
-  broken-reads.Asked,
-  broken-reads.Learnt,
-  label-reads.Asked,
-  label-reads.Learnt,
-  leaf-reads.Asked,
-  leaf-reads.Learnt,
-  pair-below t,
-  pair.Post,
-) (node-at t) node.Post
+node-returns-3 : (t : ℕ) → node-lts.Need-returns-3 (node-claims t) (node-at t) node.Post
 node-returns-3 t c = λ u y. let e = sym (c .before .before .before .before .sign .ensures) ∙ c .before .before .if3 .taken in inl (took-label y _ (λ q. omega (arith, e)) (labelled-zero y e (c .leaf .ensures)))
 
-node-broken-requires-2 : (t : ℕ) → node-lts.Need-broken-requires-2 (
-  sign-reads.Asked,
-  sign-reads.Learnt,
-  broken-reads.Asked,
-  broken-reads.Learnt,
-  label-reads.Asked,
-  label-reads.Learnt,
-  leaf-reads.Asked,
-  leaf-reads.Learnt,
-  pair-below t,
-  pair.Post,
-) (node-at t) node.Post
+node-broken-requires-2 : (t : ℕ) → node-lts.Need-broken-requires-2 (node-claims t) (node-at t) node.Post
 node-broken-requires-2 t c κs = omega (arith, (c .before .before .before .before .before .pre .1 .1) .within, (c .before .before .before .before .before .pre .1 .1) .short)
 
-node-returns-4 : (t : ℕ) → node-lts.Need-returns-4 (
-  sign-reads.Asked,
-  sign-reads.Learnt,
-  broken-reads.Asked,
-  broken-reads.Learnt,
-  label-reads.Asked,
-  label-reads.Learnt,
-  leaf-reads.Asked,
-  leaf-reads.Learnt,
-  pair-below t,
-  pair.Post,
-) (node-at t) node.Post
+node-returns-4 : (t : ℕ) → node-lts.Need-returns-4 (node-claims t) (node-at t) node.Post
 node-returns-4 t c = let at-if3 = c .before .before .before in
     let at-if1 = c .before .before .before .before in
     let at-sign = c .before .before .before .before .before in
     λ u y. inr (broke-here y _ (λ q. c .before .before .if4 .taken (at-sign .sign .ensures ∙ q)) (ap isDigit (sym (at-sign .sign .ensures)) ∙ no-digit-below _ (at-if1 .if1 .left) (at-if3 .if3 .left)) (c .broken2 .ensures))
 
-node-pair-requires : (t : ℕ) → node-lts.Need-pair-requires (
-  sign-reads.Asked,
-  sign-reads.Learnt,
-  broken-reads.Asked,
-  broken-reads.Learnt,
-  label-reads.Asked,
-  label-reads.Learnt,
-  leaf-reads.Asked,
-  leaf-reads.Learnt,
-  pair-below t,
-  pair.Post,
-) (node-at t) node.Post
+node-pair-requires : (t : ℕ) → node-lts.Need-pair-requires (node-claims t) (node-at t) node.Post
 node-pair-requires t c κs = let at-sign = c .before .before .before .before in
     let start = c .before .before .before .before .before in
     (omega (arith, (start .pre .1 .1) .within, (start .pre .1 .1) .short), ((_, (start .pre .1 .1)), sym (at-sign .sign .ensures) ∙ c .before .if4 .left))
 
-node-returns-5 : (t : ℕ) → node-lts.Need-returns-5 (
-  sign-reads.Asked,
-  sign-reads.Learnt,
-  broken-reads.Asked,
-  broken-reads.Learnt,
-  label-reads.Asked,
-  label-reads.Learnt,
-  leaf-reads.Asked,
-  leaf-reads.Learnt,
-  pair-below t,
-  pair.Post,
-) (node-at t) node.Post
+node-returns-5 : (t : ℕ) → node-lts.Need-returns-5 (node-claims t) (node-at t) node.Post
 node-returns-5 t c = λ u y. c .pair .ensures u y
 
-pair-element-copy-out-depth : (t : ℕ) → pair-lts.Need-element-copy-out-depth (
-  broken-reads.Asked,
-  broken-reads.Learnt,
-  node-below t,
-  node.Post,
-  sign-reads.Asked,
-  sign-reads.Learnt,
-  close-reads.Asked,
-  close-reads.Learnt,
-) (pair-at t) pair.Post
+pair-element-copy-out-depth : (t : ℕ) → pair-lts.Need-element-copy-out-depth (pair-claims t) (pair-at t) pair.Post
 unfolding opened shut
 pair-element-copy-out-depth t c = search needs
 
-pair-sub-depth : (t : ℕ) → pair-lts.Need-sub-depth (
-  broken-reads.Asked,
-  broken-reads.Learnt,
-  node-below t,
-  node.Post,
-  sign-reads.Asked,
-  sign-reads.Learnt,
-  close-reads.Asked,
-  close-reads.Learnt,
-) (pair-at t) pair.Post
+pair-sub-depth : (t : ℕ) → pair-lts.Need-sub-depth (pair-claims t) (pair-at t) pair.Post
 unfolding opened shut
 pair-sub-depth t c = omega (arith, c .before .pre .1 .0 .1 .some-depth)
 
-pair-element-write-m : (t : ℕ) → pair-lts.Need-element-write-m (
-  broken-reads.Asked,
-  broken-reads.Learnt,
-  node-below t,
-  node.Post,
-  sign-reads.Asked,
-  sign-reads.Learnt,
-  close-reads.Asked,
-  close-reads.Learnt,
-) (pair-at t) pair.Post
+pair-element-write-m : (t : ℕ) → pair-lts.Need-element-write-m (pair-claims t) (pair-at t) pair.Post
 unfolding opened shut
 pair-element-write-m t c = search needs
 
-pair-broken-requires : (t : ℕ) → pair-lts.Need-broken-requires (
-  broken-reads.Asked,
-  broken-reads.Learnt,
-  node-below t,
-  node.Post,
-  sign-reads.Asked,
-  sign-reads.Learnt,
-  close-reads.Asked,
-  close-reads.Learnt,
-) (pair-at t) pair.Post
+pair-broken-requires : (t : ℕ) → pair-lts.Need-broken-requires (pair-claims t) (pair-at t) pair.Post
 unfolding opened shut
 pair-broken-requires t c κs = omega (arith, c .before .before .before .pre .1 .0 .1 .within, c .before .before .before .pre .1 .0 .1 .short)
 
-pair-returns : (t : ℕ) → pair-lts.Need-returns (
-  broken-reads.Asked,
-  broken-reads.Learnt,
-  node-below t,
-  node.Post,
-  sign-reads.Asked,
-  sign-reads.Learnt,
-  close-reads.Asked,
-  close-reads.Learnt,
-) (pair-at t) pair.Post
+pair-returns : (t : ℕ) → pair-lts.Need-returns (pair-claims t) (pair-at t) pair.Post
 unfolding opened shut
 pair-returns t c = λ u y. inr (broke-deep y (c .before .before .before .before .pre .1 .1) (c .before .before .if1 .taken) (c .broken .ensures))
 
-pair-add-node : (t : ℕ) → pair-lts.Need-add-node (
-  broken-reads.Asked,
-  broken-reads.Learnt,
-  node-below t,
-  node.Post,
-  sign-reads.Asked,
-  sign-reads.Learnt,
-  close-reads.Asked,
-  close-reads.Learnt,
-) (pair-at t) pair.Post
+pair-add-node : (t : ℕ) → pair-lts.Need-add-node (pair-claims t) (pair-at t) pair.Post
 unfolding opened shut
 pair-add-node t c = search needs
 
-pair-node-requires : (t : ℕ) → pair-lts.Need-node-requires (
-  broken-reads.Asked,
-  broken-reads.Learnt,
-  node-below t,
-  node.Post,
-  sign-reads.Asked,
-  sign-reads.Learnt,
-  close-reads.Asked,
-  close-reads.Learnt,
-) (pair-at t) pair.Post
+pair-node-requires : (t : ℕ) → pair-lts.Need-node-requires (pair-claims t) (pair-at t) pair.Post
 unfolding opened shut
 pair-node-requires t c κs = (omega (arith, c .before .before .before .pre .1 .0 .1 .within, c .before .before .before .pre .1 .0 .1 .short), (_, begin-first (c .before .before .before .pre .1 .0 .1) (c .before .before .before .pre .1 .1) (c .before .if1 .left)))
 
-pair-sign-requires : (t : ℕ) → pair-lts.Need-sign-requires (
-  broken-reads.Asked,
-  broken-reads.Learnt,
-  node-below t,
-  node.Post,
-  sign-reads.Asked,
-  sign-reads.Learnt,
-  close-reads.Asked,
-  close-reads.Learnt,
-) (pair-at t) pair.Post
+pair-sign-requires : (t : ℕ) → pair-lts.Need-sign-requires (pair-claims t) (pair-at t) pair.Post
 unfolding opened shut
 pair-sign-requires t c κs = answers-place (c .before .before .before .before .pre .1 .0 .1 .short) (c .node .ensures _ (begin-first (c .before .before .before .before .pre .1 .0 .1) (c .before .before .before .before .pre .1 .1) (c .before .before .if1 .left)))
 
-pair-broken-requires-2 : (t : ℕ) → pair-lts.Need-broken-requires-2 (
-  broken-reads.Asked,
-  broken-reads.Learnt,
-  node-below t,
-  node.Post,
-  sign-reads.Asked,
-  sign-reads.Learnt,
-  close-reads.Asked,
-  close-reads.Learnt,
-) (pair-at t) pair.Post
+pair-broken-requires-2 : (t : ℕ) → pair-lts.Need-broken-requires-2 (pair-claims t) (pair-at t) pair.Post
 unfolding opened shut
 pair-broken-requires-2 t c κs = let at-node = c .before .before .before in
     let at-if1 = c .before .before .before .before .before in
     let start = c .before .before .before .before .before .before .before in
     answers-place (start .pre .1 .0 .1 .short) (at-node .node .ensures _ (begin-first (start .pre .1 .0 .1) (start .pre .1 .1) (at-if1 .if1 .left)))
 
-pair-returns-2 : (t : ℕ) → pair-lts.Need-returns-2 (
-  broken-reads.Asked,
-  broken-reads.Learnt,
-  node-below t,
-  node.Post,
-  sign-reads.Asked,
-  sign-reads.Learnt,
-  close-reads.Asked,
-  close-reads.Learnt,
-) (pair-at t) pair.Post
+pair-returns-2 : (t : ℕ) → pair-lts.Need-returns-2 (pair-claims t) (pair-at t) pair.Post
 unfolding opened shut
 pair-returns-2 t c = λ u y. let e = c .before .before .before .before .before .before .before .before .pre .1 .1 in let d = c .before .before .before .before .before .before .if1 .left in
     inr (broke-first y e d (c .before .before .before .before .node .ensures u (begin-first y e d)) (λ q. c .before .before .if2 .taken (c .before .before .before .sign .ensures ∙ q)) (c .broken2 .ensures))
 
-pair-element-copy-out-first : (t : ℕ) → pair-lts.Need-element-copy-out-first (
-  broken-reads.Asked,
-  broken-reads.Learnt,
-  node-below t,
-  node.Post,
-  sign-reads.Asked,
-  sign-reads.Learnt,
-  close-reads.Asked,
-  close-reads.Learnt,
-) (pair-at t) pair.Post
+pair-element-copy-out-first : (t : ℕ) → pair-lts.Need-element-copy-out-first (pair-claims t) (pair-at t) pair.Post
 unfolding opened shut
 pair-element-copy-out-first t c = search needs
 
-pair-add-node-2 : (t : ℕ) → pair-lts.Need-add-node-2 (
-  broken-reads.Asked,
-  broken-reads.Learnt,
-  node-below t,
-  node.Post,
-  sign-reads.Asked,
-  sign-reads.Learnt,
-  close-reads.Asked,
-  close-reads.Learnt,
-) (pair-at t) pair.Post
+pair-add-node-2 : (t : ℕ) → pair-lts.Need-add-node-2 (pair-claims t) (pair-at t) pair.Post
 unfolding opened shut
 pair-add-node-2 t c = let at-node = c .before .before .before .before in
     let at-if1 = c .before .before .before .before .before .before in
     let start = c .before .before .before .before .before .before .before .before in
     omega (arith, answers-place (start .pre .1 .0 .1 .short) (at-node .node .ensures _ (begin-first (start .pre .1 .0 .1) (start .pre .1 .1) (at-if1 .if1 .left))))
 
-pair-node-requires-2 : (t : ℕ) → pair-lts.Need-node-requires-2 (
-  broken-reads.Asked,
-  broken-reads.Learnt,
-  node-below t,
-  node.Post,
-  sign-reads.Asked,
-  sign-reads.Learnt,
-  close-reads.Asked,
-  close-reads.Learnt,
-) (pair-at t) pair.Post
+pair-node-requires-2 : (t : ℕ) → pair-lts.Need-node-requires-2 (pair-claims t) (pair-at t) pair.Post
 unfolding opened shut
 pair-node-requires-2 t c κs = let at-sign = c .before .before .before in
     let at-node = c .before .before .before .before in
@@ -400,16 +178,7 @@ pair-node-requires-2 t c κs = let at-sign = c .before .before .before in
     let T = took-first (start .pre .1 .0 .1) (start .pre .1 .1) (at-if1 .if1 .left) first comma in
     (omega (arith, T .ahead, T .within, start .pre .1 .0 .1 .short), (_, begin-second (start .pre .1 .0 .1) (start .pre .1 .1) (at-if1 .if1 .left) first comma))
 
-pair-sign-requires-2 : (t : ℕ) → pair-lts.Need-sign-requires-2 (
-  broken-reads.Asked,
-  broken-reads.Learnt,
-  node-below t,
-  node.Post,
-  sign-reads.Asked,
-  sign-reads.Learnt,
-  close-reads.Asked,
-  close-reads.Learnt,
-) (pair-at t) pair.Post
+pair-sign-requires-2 : (t : ℕ) → pair-lts.Need-sign-requires-2 (pair-claims t) (pair-at t) pair.Post
 unfolding opened shut
 pair-sign-requires-2 t c κs = let at-if2 = c .before .before .before in
     let at-sign = c .before .before .before .before in
@@ -418,16 +187,7 @@ pair-sign-requires-2 t c κs = let at-if2 = c .before .before .before in
     let start = c .before .before .before .before .before .before .before .before .before in
     answers-place (start .pre .1 .0 .1 .short) (c .node2 .ensures _ (begin-second (start .pre .1 .0 .1) (start .pre .1 .1) (at-if1 .if1 .left) (at-node .node .ensures _ (begin-first (start .pre .1 .0 .1) (start .pre .1 .1) (at-if1 .if1 .left))) (sym (at-sign .sign .ensures) ∙ at-if2 .if2 .left)))
 
-pair-broken-requires-3 : (t : ℕ) → pair-lts.Need-broken-requires-3 (
-  broken-reads.Asked,
-  broken-reads.Learnt,
-  node-below t,
-  node.Post,
-  sign-reads.Asked,
-  sign-reads.Learnt,
-  close-reads.Asked,
-  close-reads.Learnt,
-) (pair-at t) pair.Post
+pair-broken-requires-3 : (t : ℕ) → pair-lts.Need-broken-requires-3 (pair-claims t) (pair-at t) pair.Post
 unfolding opened shut
 pair-broken-requires-3 t c κs = let at-node2 = c .before .before .before in
     let at-if2 = c .before .before .before .before .before .before in
@@ -440,32 +200,14 @@ pair-broken-requires-3 t c κs = let at-node2 = c .before .before .before in
     let second = at-node2 .node2 .ensures _ (begin-second (start .pre .1 .0 .1) (start .pre .1 .1) (at-if1 .if1 .left) first comma) in
     answers-place (start .pre .1 .0 .1 .short) second
 
-pair-returns-3 : (t : ℕ) → pair-lts.Need-returns-3 (
-  broken-reads.Asked,
-  broken-reads.Learnt,
-  node-below t,
-  node.Post,
-  sign-reads.Asked,
-  sign-reads.Learnt,
-  close-reads.Asked,
-  close-reads.Learnt,
-) (pair-at t) pair.Post
+pair-returns-3 : (t : ℕ) → pair-lts.Need-returns-3 (pair-claims t) (pair-at t) pair.Post
 unfolding opened shut
 pair-returns-3 t c = λ u y. let e = c .before .before .before .before .before .before .before .before .before .before .before .before .before .pre .1 .1 in let d = c .before .before .before .before .before .before .before .before .before .before .before .if1 .left in
     let a = c .before .before .before .before .before .before .before .before .before .node .ensures u (begin-first y e d) in let k = sym (c .before .before .before .before .before .before .before .before .sign .ensures) ∙ c .before .before .before .before .before .before .before .if2 .left in
     let b = c .before .before .before .before .node2 .ensures u (begin-second y e d a k) in
     inr (broke-second y e d a k b (λ q. c .before .before .if3 .taken (c .before .before .before .sign2 .ensures ∙ q)) (c .broken3 .ensures))
 
-pair-close-requires : (t : ℕ) → pair-lts.Need-close-requires (
-  broken-reads.Asked,
-  broken-reads.Learnt,
-  node-below t,
-  node.Post,
-  sign-reads.Asked,
-  sign-reads.Learnt,
-  close-reads.Asked,
-  close-reads.Learnt,
-) (pair-at t) pair.Post
+pair-close-requires : (t : ℕ) → pair-lts.Need-close-requires (pair-claims t) (pair-at t) pair.Post
 unfolding opened shut
 pair-close-requires t c κs = let at-node2 = c .before .before .before in
     let at-if2 = c .before .before .before .before .before .before in
@@ -478,29 +220,11 @@ pair-close-requires t c κs = let at-node2 = c .before .before .before in
     let second = at-node2 .node2 .ensures _ (begin-second (start .pre .1 .0 .1) (start .pre .1 .1) (at-if1 .if1 .left) first comma) in
     closing (start .pre .1 .0 .1) (start .pre .1 .1) (at-if1 .if1 .left) first comma second (sym (c .before .before .sign2 .ensures) ∙ c .before .if3 .left)
 
-pair-element-copy-out-m : (t : ℕ) → pair-lts.Need-element-copy-out-m (
-  broken-reads.Asked,
-  broken-reads.Learnt,
-  node-below t,
-  node.Post,
-  sign-reads.Asked,
-  sign-reads.Learnt,
-  close-reads.Asked,
-  close-reads.Learnt,
-) (pair-at t) pair.Post
+pair-element-copy-out-m : (t : ℕ) → pair-lts.Need-element-copy-out-m (pair-claims t) (pair-at t) pair.Post
 unfolding opened shut
 pair-element-copy-out-m t c = search needs
 
-pair-add-m : (t : ℕ) → pair-lts.Need-add-m (
-  broken-reads.Asked,
-  broken-reads.Learnt,
-  node-below t,
-  node.Post,
-  sign-reads.Asked,
-  sign-reads.Learnt,
-  close-reads.Asked,
-  close-reads.Learnt,
-) (pair-at t) pair.Post
+pair-add-m : (t : ℕ) → pair-lts.Need-add-m (pair-claims t) (pair-at t) pair.Post
 unfolding opened shut
 pair-add-m t c = let at-if3 = c .before .before .before in
     let at-sign2 = c .before .before .before .before in
@@ -515,29 +239,11 @@ pair-add-m t c = let at-if3 = c .before .before .before in
     let second = at-node2 .node2 .ensures _ (begin-second (start .pre .1 .0 .1) (start .pre .1 .1) (at-if1 .if1 .left) first comma) in
     omega (arith, ap (λ (l : List ℕ). getD l 8 0) (c .before .close .ensures), pair-depth (start .pre .1 .0 .1) (start .pre .1 .1) (at-if1 .if1 .left) first comma second (sym (at-sign2 .sign2 .ensures) ∙ at-if3 .if3 .left), start .pre .1 .0 .1 .deep)
 
-pair-element-write-m-2 : (t : ℕ) → pair-lts.Need-element-write-m-2 (
-  broken-reads.Asked,
-  broken-reads.Learnt,
-  node-below t,
-  node.Post,
-  sign-reads.Asked,
-  sign-reads.Learnt,
-  close-reads.Asked,
-  close-reads.Learnt,
-) (pair-at t) pair.Post
+pair-element-write-m-2 : (t : ℕ) → pair-lts.Need-element-write-m-2 (pair-claims t) (pair-at t) pair.Post
 unfolding opened shut
 pair-element-write-m-2 t c = search needs
 
-pair-add-result : (t : ℕ) → pair-lts.Need-add-result (
-  broken-reads.Asked,
-  broken-reads.Learnt,
-  node-below t,
-  node.Post,
-  sign-reads.Asked,
-  sign-reads.Learnt,
-  close-reads.Asked,
-  close-reads.Learnt,
-) (pair-at t) pair.Post
+pair-add-result : (t : ℕ) → pair-lts.Need-add-result (pair-claims t) (pair-at t) pair.Post
 unfolding opened shut
 pair-add-result t c = let at-node2 = c .before .before .before .before .before in
     let at-if2 = c .before .before .before .before .before .before .before .before in
@@ -550,16 +256,7 @@ pair-add-result t c = let at-node2 = c .before .before .before .before .before i
     let second = at-node2 .node2 .ensures _ (begin-second (start .pre .1 .0 .1) (start .pre .1 .1) (at-if1 .if1 .left) first comma) in
     omega (arith, answers-place (start .pre .1 .0 .1 .short) second)
 
-pair-returns-4 : (t : ℕ) → pair-lts.Need-returns-4 (
-  broken-reads.Asked,
-  broken-reads.Learnt,
-  node-below t,
-  node.Post,
-  sign-reads.Asked,
-  sign-reads.Learnt,
-  close-reads.Asked,
-  close-reads.Learnt,
-) (pair-at t) pair.Post
+pair-returns-4 : (t : ℕ) → pair-lts.Need-returns-4 (pair-claims t) (pair-at t) pair.Post
 unfolding opened shut
 pair-returns-4 t c = let at-if3 = c .before .before .before in
     let at-sign2 = c .before .before .before .before in
@@ -575,18 +272,7 @@ pair-returns-4 t c = let at-if3 = c .before .before .before in
     inl (took-pair y e d a k b (sym (at-sign2 .sign2 .ensures) ∙ at-if3 .if3 .left) (ap (λ (l : List ℕ). set l 8 (getD l 8 0 + 1)) (c .before .close .ensures)))
 
 pub +node+pair-spec : {M : Type 1} → statement M
-+node+pair-spec = close μ-node μ-pair (λ t. node-lts.spec (
-  sign-reads.Asked,
-  sign-reads.Learnt,
-  broken-reads.Asked,
-  broken-reads.Learnt,
-  label-reads.Asked,
-  label-reads.Learnt,
-  leaf-reads.Asked,
-  leaf-reads.Learnt,
-  pair-below t,
-  pair.Post,
-)
++node+pair-spec = close μ-node μ-pair (λ t. node-lts.spec (node-claims t)
     (node-at t)
     node.Post
     (node-sign-requires t)
@@ -601,16 +287,7 @@ pub +node+pair-spec : {M : Type 1} → statement M
     (node-returns-4 t)
     (node-pair-requires t)
     (node-returns-5 t))
-    λ t. pair-lts.spec (
-      broken-reads.Asked,
-      broken-reads.Learnt,
-      node-below t,
-      node.Post,
-      sign-reads.Asked,
-      sign-reads.Learnt,
-      close-reads.Asked,
-      close-reads.Learnt,
-    )
+    λ t. pair-lts.spec (pair-claims t)
     (pair-at t)
     pair.Post
     (pair-element-copy-out-depth t)
