@@ -1,4 +1,5 @@
--- A text read whole: a node, the sign at its end, and nothing behind it. Main results: begin-start, text-broken, text-longer, text-took.
+-- A text read whole: a node, the sign at its end, and nothing behind it.
+-- Main definition: NodeRead. Main results: begin-start, node-end, text-broken, text-longer, text-took.
 use mathlib.Core.Path.{_≡_, ap, ap₂, sym, subst, _∙_}
 use mathlib.Core.List.{List, [], _∷_, _++_}
 use mathlib.Core.Logic.{inl, inr}
@@ -10,7 +11,7 @@ use Rattle.grammar.specs.Reading.{broken, seq, andThen, nothing, nodeRead, text
 use Rattle.grammar.specs.Sound.{Reads, Outcome, sound-node}
 use Rattle.grammar.specs.Complete.{breaks-at}
 use Rattle.text_laws.specs.Cells.{cell, begun, brokenIn, begun-cells, broken-cell, break-before}
-use Rattle.text_laws.specs.Answers.{Same, MayBegin, Took, Answers, TextTook}
+use Rattle.text_laws.specs.Answers.{Same, MayBegin, Took, Answers, answers-place, TextTook}
 use Rattle.text_laws.specs.Bytes.{place-of, drop-byte, sign-there, sign-missing}
 
 place : (s : List ℕ) (k : ℕ) → k ≤ length s → textRead s ≡ broken (drop k s) → BreaksAt s k
@@ -24,9 +25,22 @@ begin-start m e h l =
     let c = begun-cells m l in
     record { same = e; short = h; within = omega arith; room = c .0; low = omega (arith, c .1); pairs = omega (arith, c .1); some-depth = omega (arith, c .2); deep = omega (arith, c .2) }
 
-module _ {signs s m₁ : List ℕ} {x : ℕ} (m : List ℕ) (room : length m ≡ 2576) (y : MayBegin signs s 0 (begun m)) (A′ : Answers (nodeRead (cell (begun m) 8 - 1)) s 0 (begun m) m₁ x) where
+-- the text's node is read, which ends at x
+pub record NodeRead (signs s m m₁ : List ℕ) (x : ℕ) : Type 0 where
+  pub room : length m ≡ 2576
+  pub begins : MayBegin signs s 0 (begun m)
+  pub answers : Answers (nodeRead (cell (begun m) 8 - 1)) s 0 (begun m) m₁ x
+
+module _ {signs s m m₁ : List ℕ} {x : ℕ} (N : NodeRead signs s m m₁ x) where
+  y : MayBegin signs s 0 (begun m)
+  y = N .begins
+
   A : Answers (nodeRead levels) s 0 (begun m) m₁ x
-  A = subst (λ (d : ℕ). Answers (nodeRead d) s 0 (begun m) m₁ x) (let c = begun-cells m room .2 in omega arith) A′
+  A = subst (λ (d : ℕ). Answers (nodeRead d) s 0 (begun m) m₁ x) (let c = begun-cells m (N .room) .2 in omega arith) (N .answers)
+
+  -- the place where it ends may be looked at
+  pub node-end : x < 6144
+  node-end = answers-place (y .short) A
 
   -- no sign at the end
   pub text-broken : {m′ : List ℕ} → (getD signs x 0 ≡ 59 → ⊥) → m′ ≡ brokenIn x m₁ → BreaksAt s (cell m′ 12)
@@ -62,7 +76,7 @@ module _ {signs s m₁ : List ℕ} {x : ℕ} (m : List ℕ) (room : length m ≡
     pub end-place : (x < length s) × (length m₁ ≡ 2576) × (16384 ≤ cell m₁ 4) × (cell m₁ 4 ≤ 17900)
     end-place =
         let t = took in
-        let c = begun-cells m room in
+        let c = begun-cells m (N .room) in
         (place-of s x 59 (omega arith) end, t .room, omega (arith, t .next, c .1), omega (arith, t .next, c .1, t .ahead, t .within, y .short))
 
     -- something behind it
@@ -83,6 +97,6 @@ module _ {signs s m₁ : List ℕ} {x : ℕ} (m : List ℕ) (room : length m ≡
             record {
               tree = took .tree;
               reads-as = subst (λ (r : List ℕ). Text r (took .tree)) (sym S) (text (h .good));
-              leaves = omega (arith, took .next, begun-cells m room .1);
+              leaves = omega (arith, took .next, begun-cells m (N .room) .1);
               there = took .there;
             }

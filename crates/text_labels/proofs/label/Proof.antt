@@ -1,11 +1,9 @@
 use native.Mathlib.Omega.{arith}
 use borrow.Author.Needs.{needs}
-use Prim.Native.Nat.{_+_, _-_, _*_}
-use mathlib.Core.Path.{refl, ap, sym, _∙_}
+use mathlib.Core.Path.{sym, _∙_}
 use borrow.Author.Tests.{not-true, not-false}
-use Rattle.rules.specs.Newick.{isDigit}
-use Rattle.text_laws.specs.Digits.{digits-one, digits-more, labelled-stop, labelled-full}
-use Rattle.text_laws.specs.Bytes.{digit-range, digit-in}
+use Rattle.text_laws.specs.Digits.{label-of-one, label-of-two, label-of-three, label-of-four}
+use Rattle.text_laws.specs.Bytes.{digit-range}
 use Rattle.text_labels.proofs.label.Statement.{statement}
 use Rattle.text_labels.proofs.label.Tie as tie
 use Rattle.text_labels.proofs.label.Reads as reads
@@ -33,12 +31,10 @@ leaf-requires : tie.Need-leaf-requires
 leaf-requires c κs = search needs
 
 returns : tie.Need-returns
-returns c = let at-digit = c .before .before .before in
-    let at-sign = c .before .before .before .before in
+returns c =
     let start = c .before .before .before .before .before in
     λ t same.
-    let one = digits-one (start .args .s .now) t same _ _ _ (start .pre .1) (ap isDigit (sym (start .pre .1)) ∙ digit-in _ (omega (arith, start .pre .2)) (start .pre .3)) (λ q. omega (arith, start .pre .2)) refl in
-    labelled-stop (start .args .s .now) t same _ one (omega arith) (omega (arith, start .pre .3)) (at-sign .sign .ensures) (sym (at-digit .digit .ensures) ∙ not-true _ (c .before .before .if1 .taken)) (c .leaf .ensures)
+    label-of-one (start .args .s .now) t same (start .pre) (c .before .before .before .before .sign .ensures) (sym (c .before .before .before .digit .ensures) ∙ not-true _ (c .before .before .if1 .taken)) (c .leaf .ensures)
 
 mul-x : tie.Need-mul-x
 mul-x c = search needs
@@ -71,17 +67,16 @@ leaf-requires-2 : tie.Need-leaf-requires-2
 leaf-requires-2 c κs = search needs
 
 returns-2 : tie.Need-returns-2
-returns-2 c = let at-digit2 = c .before .before .before in
+returns-2 c =
+    let at-digit2 = c .before .before .before in
     let at-sign2 = c .before .before .before .before in
     let at-if1 = c .before .before .before .before .before in
     let at-digit = c .before .before .before .before .before .before in
     let at-sign = c .before .before .before .before .before .before .before in
     let start = c .before .before .before .before .before .before .before .before in
     λ t same.
-    let first-digit = sym (at-digit .digit .ensures) ∙ not-false _ (at-if1 .if1 .left) in
-    let one = digits-one (start .args .s .now) t same _ _ _ (start .pre .1) (ap isDigit (sym (start .pre .1)) ∙ digit-in _ (omega (arith, start .pre .2)) (start .pre .3)) (λ q. omega (arith, start .pre .2)) refl in
-    let two = digits-more (start .args .s .now) t same _ (10 * start .args .c + at-sign .sign .result - 528) one (at-sign .sign .ensures) first-digit (omega (arith, start .pre .2, digit-range _ first-digit)) in
-    labelled-stop (start .args .s .now) t same _ two (omega arith) (omega (arith, start .pre .3, digit-range _ first-digit)) (at-sign2 .sign2 .ensures) (sym (at-digit2 .digit2 .ensures) ∙ not-true _ (c .before .before .if2 .taken)) (c .leaf2 .ensures)
+    label-of-two (start .args .s .now) t same (start .pre) (at-sign .sign .ensures) (sym (at-digit .digit .ensures) ∙ not-false _ (at-if1 .if1 .left))
+    (at-sign2 .sign2 .ensures) (sym (at-digit2 .digit2 .ensures) ∙ not-true _ (c .before .before .if2 .taken)) (c .leaf2 .ensures)
 
 mul-y : tie.Need-mul-y
 mul-y c = search needs
@@ -119,7 +114,8 @@ leaf-requires-3 : tie.Need-leaf-requires-3
 leaf-requires-3 c κs = search needs
 
 returns-3 : tie.Need-returns-3
-returns-3 c = let at-digit3 = c .before .before .before in
+returns-3 c =
+    let at-digit3 = c .before .before .before in
     let at-sign3 = c .before .before .before .before in
     let at-if2 = c .before .before .before .before .before in
     let at-digit2 = c .before .before .before .before .before .before in
@@ -129,12 +125,9 @@ returns-3 c = let at-digit3 = c .before .before .before in
     let at-sign = c .before .before .before .before .before .before .before .before .before .before in
     let start = c .before .before .before .before .before .before .before .before .before .before .before in
     λ t same.
-    let first-digit = sym (at-digit .digit .ensures) ∙ not-false _ (at-if1 .if1 .left) in
-    let second-digit = sym (at-digit2 .digit2 .ensures) ∙ not-false _ (at-if2 .if2 .left) in
-    let one = digits-one (start .args .s .now) t same _ _ _ (start .pre .1) (ap isDigit (sym (start .pre .1)) ∙ digit-in _ (omega (arith, start .pre .2)) (start .pre .3)) (λ q. omega (arith, start .pre .2)) refl in
-    let two = digits-more (start .args .s .now) t same _ (10 * start .args .c + at-sign .sign .result - 528) one (at-sign .sign .ensures) first-digit (omega (arith, start .pre .2, digit-range _ first-digit)) in
-    let three = digits-more (start .args .s .now) t same _ (10 * (10 * start .args .c + at-sign .sign .result) + at-sign2 .sign2 .result - 5328) two (at-sign2 .sign2 .ensures) second-digit (omega (arith, start .pre .2, digit-range _ first-digit, digit-range _ second-digit)) in
-    labelled-stop (start .args .s .now) t same _ three (omega arith) (omega (arith, start .pre .3, digit-range _ first-digit, digit-range _ second-digit)) (at-sign3 .sign3 .ensures) (sym (at-digit3 .digit3 .ensures) ∙ not-true _ (c .before .before .if3 .taken)) (c .leaf3 .ensures)
+    label-of-three (start .args .s .now) t same (start .pre) (at-sign .sign .ensures) (sym (at-digit .digit .ensures) ∙ not-false _ (at-if1 .if1 .left))
+    (at-sign2 .sign2 .ensures) (sym (at-digit2 .digit2 .ensures) ∙ not-false _ (at-if2 .if2 .left)) (at-sign3 .sign3 .ensures)
+    (sym (at-digit3 .digit3 .ensures) ∙ not-true _ (c .before .before .if3 .taken)) (c .leaf3 .ensures)
 
 mul-leaf-3 : tie.Need-mul-leaf-3
 mul-leaf-3 c = search needs
@@ -163,7 +156,8 @@ leaf-requires-4 : tie.Need-leaf-requires-4
 leaf-requires-4 c κs = search needs
 
 returns-4 : tie.Need-returns-4
-returns-4 c = let at-digit3 = c .before .before .before in
+returns-4 c =
+    let at-digit3 = c .before .before .before in
     let at-sign3 = c .before .before .before .before in
     let at-if2 = c .before .before .before .before .before in
     let at-digit2 = c .before .before .before .before .before .before in
@@ -173,15 +167,9 @@ returns-4 c = let at-digit3 = c .before .before .before in
     let at-sign = c .before .before .before .before .before .before .before .before .before .before in
     let start = c .before .before .before .before .before .before .before .before .before .before .before in
     λ t same.
-    let first-digit = sym (at-digit .digit .ensures) ∙ not-false _ (at-if1 .if1 .left) in
-    let second-digit = sym (at-digit2 .digit2 .ensures) ∙ not-false _ (at-if2 .if2 .left) in
-    let third-digit = sym (at-digit3 .digit3 .ensures) ∙ not-false _ (c .before .before .if3 .left) in
-    let one = digits-one (start .args .s .now) t same _ _ _ (start .pre .1) (ap isDigit (sym (start .pre .1)) ∙ digit-in _ (omega (arith, start .pre .2)) (start .pre .3)) (λ q. omega (arith, start .pre .2)) refl in
-    let two = digits-more (start .args .s .now) t same _ (10 * start .args .c + at-sign .sign .result - 528) one (at-sign .sign .ensures) first-digit (omega (arith, start .pre .2, digit-range _ first-digit)) in
-    let three = digits-more (start .args .s .now) t same _ (10 * (10 * start .args .c + at-sign .sign .result) + at-sign2 .sign2 .result - 5328) two (at-sign2 .sign2 .ensures) second-digit (omega (arith, start .pre .2, digit-range _ first-digit, digit-range _ second-digit)) in
-    let four = digits-more (start .args .s .now) t same _ (10 * (10 * (10 * start .args .c + at-sign .sign .result) + at-sign2 .sign2 .result) + at-sign3 .sign3 .result - 53328)
-    three (at-sign3 .sign3 .ensures) third-digit (omega (arith, start .pre .2, digit-range _ first-digit, digit-range _ second-digit, digit-range _ third-digit)) in
-    labelled-full four (omega (arith, start .pre .3, digit-range _ first-digit, digit-range _ second-digit, digit-range _ third-digit)) (c .leaf4 .ensures)
+    label-of-four (start .args .s .now) t same (start .pre) (at-sign .sign .ensures) (sym (at-digit .digit .ensures) ∙ not-false _ (at-if1 .if1 .left))
+    (at-sign2 .sign2 .ensures) (sym (at-digit2 .digit2 .ensures) ∙ not-false _ (at-if2 .if2 .left)) (at-sign3 .sign3 .ensures)
+    (sym (at-digit3 .digit3 .ensures) ∙ not-false _ (c .before .before .if3 .left)) (c .leaf4 .ensures)
 
 pub label-spec : {M : Type 1} → statement M
 label-spec =
