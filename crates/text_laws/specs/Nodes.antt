@@ -1,5 +1,6 @@
 -- How the answers of the node reader and the pair reader are made of one another.
--- Main results: labelled-zero, took-label, broke-here, broke-deep, begin-first, broke-first, took-first, begin-second, broke-second, took-second, took-pair.
+-- Main definitions: FirstRead, SecondRead.
+-- Main results: labelled-zero, took-label, broke-here, broke-deep, begin-first, broke-first, took-first, begin-second, broke-second, closing, took-pair.
 use mathlib.Core.Path.{_≡_, refl, ap, ap₂, sym, subst, _∙_}
 use mathlib.Core.Bool.{false}
 use mathlib.Core.List.{List}
@@ -8,12 +9,12 @@ use Prim.Native.Nat.{ℕ, zero, suc, _+_, _-_, _≤_, _<_}
 use native.Mathlib.Omega.{arith}
 use lib.ListN.{length, getD, drop, List·getD-eq-default}
 use Rattle.rules.specs.Newick.{isDigit}
-use Rattle.rules.specs.Tree.{leaf, node}
-use Rattle.grammar.specs.Reading.{Reader, read, broken, seq, andThen, nodeRead, pairRead}
+use Rattle.rules.specs.Tree.{Tree, leaf, node}
+use Rattle.grammar.specs.Reading.{Reader, read, broken, sign, seq, andThen, nodeRead, pairRead}
 use Rattle.grammar.specs.Pairs.{pairCount}
 use Rattle.text_laws.specs.Cells.{cell, leafIn, opened, pairIn, shut, brokenIn, Closing}
 use Rattle.text_laws.specs.Cells.{opened-length, opened-depth, opened-other, shut-length, shut-depth, shut-other, pair-length, pair-cells, pair-other, leaf-length, leaf-last, leaf-other, broken-cell, break-before}
-use Rattle.text_laws.specs.Answers.{recorded, MayBegin, Labelled, Took, Broke, Answers}
+use Rattle.text_laws.specs.Answers.{recorded, MayBegin, Labelled, Took, Broke, Answers, answers-place}
 use Rattle.text_laws.specs.Bytes.{place-of, sign-there, sign-missing, label-zero, label-none, node-label, node-pair, node-deep}
 
 -- where the bytes break off at a place
@@ -94,121 +95,157 @@ module _ {signs s : List ℕ} {at : ℕ} {m : List ℕ} (y : MayBegin signs s at
           more zero f e = absurd (f refl)
           more (suc d) f e = omega arith
 
-      module _ {m₁ : List ℕ} {x : ℕ} (A : Answers (nodeRead (cell (opened m) 8 - 1)) s (at + 1) (opened m) m₁ x) where
-        first-zero : x ≡ 6143 → getD signs x 0 ≡ 0
-        first-zero e = y .same x ∙ List·getD-eq-default s 0 (omega (arith, y .short))
+-- the first node of a pair is read, which ends at x
+pub record FirstRead (signs s : List ℕ) (at : ℕ) (m m₁ : List ℕ) (x : ℕ) : Type 0 where
+  pub begins : MayBegin signs s at m
+  pub bracket : getD signs at 0 ≡ 40
+  pub some : cell m 8 - 1 ≡ 0 → ⊥
+  pub answers : Answers (nodeRead (cell (opened m) 8 - 1)) s (at + 1) (opened m) m₁ x
 
-        pub broke-first : {m′ : List ℕ} {r : ℕ} → (getD signs x 0 ≡ 44 → ⊥) → (r ≡ 6143) × (m′ ≡ brokenIn x m₁) → Broke (nodeRead (cell m 8 - 1)) s at m′ r
-        unfolding pairRead seq andThen
-        broke-first {m′} {r} h (p, q) = go A
-          where
-            go : Answers (nodeRead (cell (opened m) 8 - 1)) s (at + 1) (opened m) m₁ x → Broke (nodeRead (cell m 8 - 1)) s at m′ r
-            go (inl t) =
-                broke-at (nodeRead (cell m 8 - 1)) s at x m₁ m′ r (t .room) (y .short) (t .within)
-                (reads-pair ∙ rw (t .reads, sign-missing 44 (t .tree) s x (λ e. h (y .same x ∙ e)))) p q
-            go (inr b) =
-                let e : m′ ≡ m₁ = q ∙ sym (break-before m₁ x (b .off)) in
-                subst (λ (l : List ℕ). Broke (nodeRead (cell m 8 - 1)) s at l r) (sym e) (record { off = p; within = b .within; breaks = reads-pair ∙ rw (b .breaks) })
+module _ {signs s : List ℕ} {at : ℕ} {m m₁ : List ℕ} {x : ℕ} (F : FirstRead signs s at m m₁ x) where
+  pair-reads : nodeRead (cell m 8 - 1) (drop at s) ≡ pairRead (nodeRead (cell (opened m) 8 - 1)) (drop (at + 1) s)
+  pair-reads = reads-pair (F .begins) (F .bracket) (F .some)
 
-        module _ (comma′ : getD signs x 0 ≡ 44) where
-          pub took-first : Took (nodeRead (cell (opened m) 8 - 1)) s (at + 1) (opened m) m₁ x
-          took-first = go A
-            where
-              go : Answers (nodeRead (cell (opened m) 8 - 1)) s (at + 1) (opened m) m₁ x → Took (nodeRead (cell (opened m) 8 - 1)) s (at + 1) (opened m) m₁ x
-              go (inl t) = t
-              go (inr b) = absurd (let z = first-zero (b .off) in omega arith)
+  -- the place where it ends may be looked at
+  pub first-end : x < 6144
+  first-end = answers-place (F .begins .short) (F .answers)
 
-          comma : getD s x 0 ≡ 44
-          comma = sym (y .same x) ∙ comma′
+  first-zero : x ≡ 6143 → getD signs x 0 ≡ 0
+  first-zero e = F .begins .same x ∙ List·getD-eq-default s 0 (omega (arith, F .begins .short))
 
-          same-depth : cell m₁ 8 ≡ cell (opened m) 8
-          same-depth = took-first .depth
+  pub broke-first : {m′ : List ℕ} {r : ℕ} → (getD signs x 0 ≡ 44 → ⊥) → (r ≡ 6143) × (m′ ≡ brokenIn x m₁) → Broke (nodeRead (cell m 8 - 1)) s at m′ r
+  unfolding pairRead seq andThen
+  broke-first {m′} {r} h (p, q) = go (F .answers)
+    where
+      go : Answers (nodeRead (cell (opened m) 8 - 1)) s (at + 1) (opened m) m₁ x → Broke (nodeRead (cell m 8 - 1)) s at m′ r
+      go (inl t) =
+          broke-at (nodeRead (cell m 8 - 1)) s at x m₁ m′ r (t .room) (F .begins .short) (t .within)
+          (pair-reads ∙ rw (t .reads, sign-missing 44 (t .tree) s x (λ e. h (F .begins .same x ∙ e)))) p q
+      go (inr b) =
+          let e : m′ ≡ m₁ = q ∙ sym (break-before m₁ x (b .off)) in
+          subst (λ (l : List ℕ). Broke (nodeRead (cell m 8 - 1)) s at l r) (sym e) (record { off = p; within = b .within; breaks = pair-reads ∙ rw (b .breaks) })
 
-          pub begin-second : MayBegin signs s (x + 1) m₁
-          begin-second =
-              let h : x < length s = place-of s x 44 (omega arith) comma in
-              let t = took-first in
-              let f = begin-first in
-              record {
-                same = y .same;
-                short = y .short;
-                within = omega arith;
-                room = t .room;
-                low = omega (arith, t .next, f .low);
-                pairs = omega (arith, t .next, f .low, f .pairs, t .ahead);
-                some-depth = omega (arith, t .depth, f .some-depth);
-                deep = omega (arith, t .depth, f .deep);
-              }
+  module _ (comma′ : getD signs x 0 ≡ 44) where
+    pub took-first : Took (nodeRead (cell (opened m) 8 - 1)) s (at + 1) (opened m) m₁ x
+    took-first = go (F .answers)
+      where
+        go : Answers (nodeRead (cell (opened m) 8 - 1)) s (at + 1) (opened m) m₁ x → Took (nodeRead (cell (opened m) 8 - 1)) s (at + 1) (opened m) m₁ x
+        go (inl t) = t
+        go (inr b) = absurd (let z = first-zero (b .off) in omega arith)
 
-          module _ {m₂ : List ℕ} {z : ℕ} (A′ : Answers (nodeRead (cell m₁ 8 - 1)) s (x + 1) m₁ m₂ z) where
-            second : Answers (nodeRead (cell (opened m) 8 - 1)) s (x + 1) m₁ m₂ z
-            second = subst (λ (d : ℕ). Answers (nodeRead (d - 1)) s (x + 1) m₁ m₂ z) same-depth A′
+    comma : getD s x 0 ≡ 44
+    comma = sym (F .begins .same x) ∙ comma′
 
-            second-zero : z ≡ 6143 → getD signs z 0 ≡ 0
-            second-zero e = y .same z ∙ List·getD-eq-default s 0 (omega (arith, y .short))
+    pub begin-second : MayBegin signs s (x + 1) m₁
+    begin-second =
+        let h : x < length s = place-of s x 44 (omega arith) comma in
+        let t = took-first in
+        let f = begin-first (F .begins) (F .bracket) (F .some) in
+        record {
+          same = F .begins .same;
+          short = F .begins .short;
+          within = omega arith;
+          room = t .room;
+          low = omega (arith, t .next, f .low);
+          pairs = omega (arith, t .next, f .low, f .pairs, t .ahead);
+          some-depth = omega (arith, t .depth, f .some-depth);
+          deep = omega (arith, t .depth, f .deep);
+        }
 
-            pub broke-second : {m′ : List ℕ} {r : ℕ} → (getD signs z 0 ≡ 41 → ⊥) → (r ≡ 6143) × (m′ ≡ brokenIn z m₂) → Broke (nodeRead (cell m 8 - 1)) s at m′ r
-            unfolding pairRead seq andThen
-            broke-second {m′} {r} h (p, q) = go second
-              where
-                go : Answers (nodeRead (cell (opened m) 8 - 1)) s (x + 1) m₁ m₂ z → Broke (nodeRead (cell m 8 - 1)) s at m′ r
-                go (inl u) =
-                    broke-at (nodeRead (cell m 8 - 1)) s at z m₂ m′ r (u .room) (y .short) (u .within)
-                    (reads-pair ∙ rw (took-first .reads, sign-there 44 (took-first .tree) s x (omega arith) comma, u .reads)
-                    (sign-missing 41 (node (took-first .tree) (u .tree)) s z (λ e. h (y .same z ∙ e)))) p q
-                go (inr b) =
-                    let e : m′ ≡ m₂ = q ∙ sym (break-before m₂ z (b .off)) in
-                    subst (λ (l : List ℕ). Broke (nodeRead (cell m 8 - 1)) s at l r) (sym e)
-                    (record { off = p; within = b .within; breaks = reads-pair ∙ rw (took-first .reads, sign-there 44 (took-first .tree) s x (omega arith) comma, b .breaks) })
+-- the second node of a pair is read, which ends at z
+pub record SecondRead (signs s : List ℕ) (at : ℕ) (m m₁ : List ℕ) (x : ℕ) (m₂ : List ℕ) (z : ℕ) : Type 0 where
+  pub first : FirstRead signs s at m m₁ x
+  pub comma-sign : getD signs x 0 ≡ 44
+  pub answers : Answers (nodeRead (cell m₁ 8 - 1)) s (x + 1) m₁ m₂ z
 
-            module _ (close′ : getD signs z 0 ≡ 41) where
-              took-second : Took (nodeRead (cell (opened m) 8 - 1)) s (x + 1) m₁ m₂ z
-              took-second = go second
-                where
-                  go : Answers (nodeRead (cell (opened m) 8 - 1)) s (x + 1) m₁ m₂ z → Took (nodeRead (cell (opened m) 8 - 1)) s (x + 1) m₁ m₂ z
-                  go (inl u) = u
-                  go (inr b) = absurd (let q = second-zero (b .off) in omega arith)
+module _ {signs s : List ℕ} {at : ℕ} {m m₁ : List ℕ} {x : ℕ} {m₂ : List ℕ} {z : ℕ} (S : SecondRead signs s at m m₁ x m₂ z) where
+  begins : MayBegin signs s at m
+  begins = S .first .begins
 
-              closes : getD s z 0 ≡ 41
-              closes = sym (y .same z) ∙ close′
+  took-left : Took (nodeRead (cell (opened m) 8 - 1)) s (at + 1) (opened m) m₁ x
+  took-left = took-first (S .first) (S .comma-sign)
 
-              pub closing : Closing (cell m₁ 0) m₂
-              closing =
-                  let t = took-first in
-                  let u = took-second in
-                  record {
-                    first-child = t .child;
-                    second-child = u .child;
-                    low = omega (arith, u .next, t .next, open-next, y .low);
-                    few = omega (arith, u .next, t .next, open-next, y .low, y .pairs, t .ahead, u .ahead, u .within, y .short);
-                  }
+  left-reads : (t : Tree) → sign 44 t (drop x s) ≡ read (drop (x + 1) s) t
+  left-reads t = sign-there 44 t s x (omega arith) (comma (S .first) (S .comma-sign))
 
-              pair-room : length (pairIn (cell m₁ 0) m₂) ≡ 2576
-              pair-room = pair-length m₂ (cell m₁ 0) ∙ took-second .room
+  next-pair : cell (opened m) 4 ≡ cell m 4
+  next-pair = open-next begins (S .first .bracket)
 
-              pair-known : (cell (pairIn (cell m₁ 0) m₂) 0 ≡ cell m₂ 4) × (cell (pairIn (cell m₁ 0) m₂) 4 ≡ cell m₂ 4 + 1)
-              pair-known = pair-cells m₂ (cell m₁ 0) (omega (arith, took-second .room))
+  depth-left : cell (opened m) 8 ≡ cell m 8 - 1
+  depth-left = open-depth begins (S .first .bracket)
 
-              pub pair-depth : cell (pairIn (cell m₁ 0) m₂) 8 + 1 ≡ cell m 8
-              pair-depth =
-                  omega (arith, pair-other m₂ (cell m₁ 0) 8 (λ q. omega arith) (λ q. omega arith) (omega arith), took-second .depth, took-first .depth, open-depth, y .some-depth)
+  -- the place where it ends may be looked at
+  pub second-end : z < 6144
+  second-end = answers-place (begins .short) (S .answers)
 
-              pub took-pair : {m′ : List ℕ} → m′ ≡ shut (pairIn (cell m₁ 0) m₂) → Took (nodeRead (cell m 8 - 1)) s at m m′ (z + 1)
-              unfolding pairRead seq andThen pairCount recorded
-              took-pair {m′} e =
-                  let t = took-first in
-                  let u = took-second in
-                  let h : z < length s = place-of s z 41 (omega arith) closes in
-                  let w : List ℕ = pairIn (cell m₁ 0) m₂ in
-                  let c : (i : ℕ) → (i ≡ 8 → ⊥) → cell m′ i ≡ cell w i = λ i q. ap (λ (k : List ℕ). cell k i) e ∙ shut-other w i q in
-                  record {
-                    tree = node (t .tree) (u .tree);
-                    reads = reads-pair ∙ rw (t .reads, sign-there 44 (t .tree) s x (omega arith) comma, u .reads) (sign-there 41 (node (t .tree) (u .tree)) s z (omega arith) closes);
-                    ahead = omega (arith, t .ahead, u .ahead);
-                    within = omega arith;
-                    there = e ∙ ap shut (ap₂ pairIn (ap (λ (k : List ℕ). cell k 0) (t .there)) (u .there ∙ ap (recorded (u .tree)) (t .there)));
-                    room = ap length e ∙ shut-length w ∙ pair-room;
-                    child = omega (arith, c 0 (λ q. omega arith), pair-known .0, closing .few);
-                    next = omega (arith, c 4 (λ q. omega arith), pair-known .1, u .next, t .next, open-next);
-                    depth = ap (λ (k : List ℕ). cell k 8) e ∙ shut-depth w (omega (arith, pair-room)) ∙ pair-depth;
-                  }
+  second : Answers (nodeRead (cell (opened m) 8 - 1)) s (x + 1) m₁ m₂ z
+  second = subst (λ (d : ℕ). Answers (nodeRead (d - 1)) s (x + 1) m₁ m₂ z) (took-left .depth) (S .answers)
+
+  second-zero : z ≡ 6143 → getD signs z 0 ≡ 0
+  second-zero e = begins .same z ∙ List·getD-eq-default s 0 (omega (arith, begins .short))
+
+  pub broke-second : {m′ : List ℕ} {r : ℕ} → (getD signs z 0 ≡ 41 → ⊥) → (r ≡ 6143) × (m′ ≡ brokenIn z m₂) → Broke (nodeRead (cell m 8 - 1)) s at m′ r
+  unfolding pairRead seq andThen
+  broke-second {m′} {r} h (p, q) = go second
+    where
+      go : Answers (nodeRead (cell (opened m) 8 - 1)) s (x + 1) m₁ m₂ z → Broke (nodeRead (cell m 8 - 1)) s at m′ r
+      go (inl u) =
+          broke-at (nodeRead (cell m 8 - 1)) s at z m₂ m′ r (u .room) (begins .short) (u .within)
+          (pair-reads (S .first) ∙ rw (took-left .reads, left-reads (took-left .tree), u .reads)
+          (sign-missing 41 (node (took-left .tree) (u .tree)) s z (λ e. h (begins .same z ∙ e)))) p q
+      go (inr b) =
+          let e : m′ ≡ m₂ = q ∙ sym (break-before m₂ z (b .off)) in
+          subst (λ (l : List ℕ). Broke (nodeRead (cell m 8 - 1)) s at l r) (sym e)
+          (record { off = p; within = b .within; breaks = pair-reads (S .first) ∙ rw (took-left .reads, left-reads (took-left .tree), b .breaks) })
+
+  module _ (close′ : getD signs z 0 ≡ 41) where
+    took-second : Took (nodeRead (cell (opened m) 8 - 1)) s (x + 1) m₁ m₂ z
+    took-second = go second
+      where
+        go : Answers (nodeRead (cell (opened m) 8 - 1)) s (x + 1) m₁ m₂ z → Took (nodeRead (cell (opened m) 8 - 1)) s (x + 1) m₁ m₂ z
+        go (inl u) = u
+        go (inr b) = absurd (let q = second-zero (b .off) in omega arith)
+
+    closes : getD s z 0 ≡ 41
+    closes = sym (begins .same z) ∙ close′
+
+    pub closing : Closing (cell m₁ 0) m₂
+    closing =
+        let t = took-left in
+        let u = took-second in
+        record {
+          first-child = t .child;
+          second-child = u .child;
+          low = omega (arith, u .next, t .next, next-pair, begins .low);
+          few = omega (arith, u .next, t .next, next-pair, begins .low, begins .pairs, t .ahead, u .ahead, u .within, begins .short);
+        }
+
+    pair-room : length (pairIn (cell m₁ 0) m₂) ≡ 2576
+    pair-room = pair-length m₂ (cell m₁ 0) ∙ took-second .room
+
+    pair-known : (cell (pairIn (cell m₁ 0) m₂) 0 ≡ cell m₂ 4) × (cell (pairIn (cell m₁ 0) m₂) 4 ≡ cell m₂ 4 + 1)
+    pair-known = pair-cells m₂ (cell m₁ 0) (omega (arith, took-second .room))
+
+    pub pair-depth : cell (pairIn (cell m₁ 0) m₂) 8 + 1 ≡ cell m 8
+    pair-depth =
+        omega (arith, pair-other m₂ (cell m₁ 0) 8 (λ q. omega arith) (λ q. omega arith) (omega arith), took-second .depth, took-left .depth, depth-left, begins .some-depth)
+
+    pub took-pair : {m′ : List ℕ} → m′ ≡ shut (pairIn (cell m₁ 0) m₂) → Took (nodeRead (cell m 8 - 1)) s at m m′ (z + 1)
+    unfolding pairRead seq andThen pairCount recorded
+    took-pair {m′} e =
+        let t = took-left in
+        let u = took-second in
+        let h : z < length s = place-of s z 41 (omega arith) closes in
+        let w : List ℕ = pairIn (cell m₁ 0) m₂ in
+        let c : (i : ℕ) → (i ≡ 8 → ⊥) → cell m′ i ≡ cell w i = λ i q. ap (λ (k : List ℕ). cell k i) e ∙ shut-other w i q in
+        record {
+          tree = node (t .tree) (u .tree);
+          reads = pair-reads (S .first) ∙ rw (t .reads, left-reads (t .tree), u .reads) (sign-there 41 (node (t .tree) (u .tree)) s z (omega arith) closes);
+          ahead = omega (arith, t .ahead, u .ahead);
+          within = omega arith;
+          there = e ∙ ap shut (ap₂ pairIn (ap (λ (k : List ℕ). cell k 0) (t .there)) (u .there ∙ ap (recorded (u .tree)) (t .there)));
+          room = ap length e ∙ shut-length w ∙ pair-room;
+          child = omega (arith, c 0 (λ q. omega arith), pair-known .0, closing .few);
+          next = omega (arith, c 4 (λ q. omega arith), pair-known .1, u .next, t .next, next-pair);
+          depth = ap (λ (k : List ℕ). cell k 8) e ∙ shut-depth w (omega (arith, pair-room)) ∙ pair-depth;
+        }

@@ -3,8 +3,9 @@ use borrow.Author.Needs.{needs}
 use mathlib.Core.Path.{sym, ap, _∙_}
 use mathlib.Core.Logic.{inl, inr}
 use Rattle.rules.specs.Newick.{isDigit}
-use Rattle.text_laws.specs.Nodes.{labelled-zero, took-label, broke-here, broke-deep, begin-first, broke-first, begin-second, broke-second, closing, pair-depth, took-first, took-pair}
-use Rattle.text_laws.specs.Answers.{answers-place}
+use Rattle.text_laws.specs.Nodes.{labelled-zero, took-label, broke-here, broke-deep, begin-first, FirstRead, first-end, broke-first, took-first, begin-second}
+use Rattle.text_laws.specs.Nodes.{SecondRead, second-end, broke-second, closing, pair-depth, took-pair}
+use Rattle.text_laws.specs.Answers.{MayBegin}
 use Rattle.text_laws.specs.Cells.{opened, shut}
 use mathlib.Core.List.{List}
 use lib.ListN.{getD, set}
@@ -112,6 +113,34 @@ node-pair-requires t c κs = let at-sign = c .before .before .before .before in
 node-returns-5 : (t : ℕ) → node-lts.Need-returns-5 (node-claims t) (node-at t) node.Post
 node-returns-5 t c = λ u y. c .pair .ensures u y
 
+-- where the pair begins, from where its first node and its second node are read
+abbrev first-start : (t : ℕ) → pair-lts.After-node (pair-claims t) (pair-at t) pair.Post → pair-lts.Start (pair-claims t) (pair-at t) pair.Post
+first-start t c = c .before .before .before .before
+
+abbrev first-of : (t : ℕ) → pair-lts.After-node2 (pair-claims t) (pair-at t) pair.Post → pair-lts.After-node (pair-claims t) (pair-at t) pair.Post
+first-of t c = c .before .before .before .before .before
+
+-- the first node is read
+first-read : (t : ℕ) (c : pair-lts.After-node (pair-claims t) (pair-at t) pair.Post) {u : List ℕ}
+    → MayBegin (first-start t c .args .s .now) u (first-start t c .args .at) (first-start t c .args .m .now)
+    → FirstRead (first-start t c .args .s .now) u (first-start t c .args .at) (first-start t c .args .m .now) (c .node .last .1 .0) (c .node .result)
+unfolding opened shut
+first-read t c {u} y =
+    let bracket = first-start t c .pre .1 .1 in
+    let some = c .before .before .if1 .left in
+    record { begins = y; bracket = bracket; some = some; answers = c .node .ensures u (begin-first y bracket some) }
+
+-- the second node is read
+second-read : (t : ℕ) (c : pair-lts.After-node2 (pair-claims t) (pair-at t) pair.Post) {u : List ℕ}
+    → MayBegin (first-start t (first-of t c) .args .s .now) u (first-start t (first-of t c) .args .at) (first-start t (first-of t c) .args .m .now)
+    → SecondRead (first-start t (first-of t c) .args .s .now) u (first-start t (first-of t c) .args .at) (first-start t (first-of t c) .args .m .now)
+    (first-of t c .node .last .1 .0) (first-of t c .node .result) (c .node2 .last .1 .0) (c .node2 .result)
+unfolding opened shut
+second-read t c {u} y =
+    let first = first-read t (first-of t c) y in
+    let comma = sym (c .before .before .before .before .sign .ensures) ∙ c .before .before .before .if2 .left in
+    record { first = first; comma-sign = comma; answers = c .node2 .ensures u (begin-second first comma) }
+
 pair-element-copy-out-depth : (t : ℕ) → pair-lts.Need-element-copy-out-depth (pair-claims t) (pair-at t) pair.Post
 unfolding opened shut
 pair-element-copy-out-depth t c = search needs
@@ -142,19 +171,16 @@ pair-node-requires t c κs = (omega (arith, c .before .before .before .pre .1 .0
 
 pair-sign-requires : (t : ℕ) → pair-lts.Need-sign-requires (pair-claims t) (pair-at t) pair.Post
 unfolding opened shut
-pair-sign-requires t c κs = answers-place (c .before .before .before .before .pre .1 .0 .1 .short) (c .node .ensures _ (begin-first (c .before .before .before .before .pre .1 .0 .1) (c .before .before .before .before .pre .1 .1) (c .before .before .if1 .left)))
+pair-sign-requires t c κs = first-end (first-read t c (first-start t c .pre .1 .0 .1))
 
 pair-broken-requires-2 : (t : ℕ) → pair-lts.Need-broken-requires-2 (pair-claims t) (pair-at t) pair.Post
 unfolding opened shut
 pair-broken-requires-2 t c κs = let at-node = c .before .before .before in
-    let at-if1 = c .before .before .before .before .before in
-    let start = c .before .before .before .before .before .before .before in
-    answers-place (start .pre .1 .0 .1 .short) (at-node .node .ensures _ (begin-first (start .pre .1 .0 .1) (start .pre .1 .1) (at-if1 .if1 .left)))
+    first-end (first-read t at-node (first-start t at-node .pre .1 .0 .1))
 
 pair-returns-2 : (t : ℕ) → pair-lts.Need-returns-2 (pair-claims t) (pair-at t) pair.Post
 unfolding opened shut
-pair-returns-2 t c = λ u y. let e = c .before .before .before .before .before .before .before .before .pre .1 .1 in let d = c .before .before .before .before .before .before .if1 .left in
-    inr (broke-first y e d (c .before .before .before .before .node .ensures u (begin-first y e d)) (λ q. c .before .before .if2 .taken (c .before .before .before .sign .ensures ∙ q)) (c .broken2 .ensures))
+pair-returns-2 t c = λ u y. inr (broke-first (first-read t (c .before .before .before .before) y) (λ q. c .before .before .if2 .taken (c .before .before .before .sign .ensures ∙ q)) (c .broken2 .ensures))
 
 pair-element-copy-out-first : (t : ℕ) → pair-lts.Need-element-copy-out-first (pair-claims t) (pair-at t) pair.Post
 unfolding opened shut
@@ -163,62 +189,36 @@ pair-element-copy-out-first t c = search needs
 pair-add-node-2 : (t : ℕ) → pair-lts.Need-add-node-2 (pair-claims t) (pair-at t) pair.Post
 unfolding opened shut
 pair-add-node-2 t c = let at-node = c .before .before .before .before in
-    let at-if1 = c .before .before .before .before .before .before in
-    let start = c .before .before .before .before .before .before .before .before in
-    omega (arith, answers-place (start .pre .1 .0 .1 .short) (at-node .node .ensures _ (begin-first (start .pre .1 .0 .1) (start .pre .1 .1) (at-if1 .if1 .left))))
+    omega (arith, first-end (first-read t at-node (first-start t at-node .pre .1 .0 .1)))
 
 pair-node-requires-2 : (t : ℕ) → pair-lts.Need-node-requires-2 (pair-claims t) (pair-at t) pair.Post
 unfolding opened shut
-pair-node-requires-2 t c κs = let at-sign = c .before .before .before in
-    let at-node = c .before .before .before .before in
-    let at-if1 = c .before .before .before .before .before .before in
-    let start = c .before .before .before .before .before .before .before .before in
-    let first = at-node .node .ensures _ (begin-first (start .pre .1 .0 .1) (start .pre .1 .1) (at-if1 .if1 .left)) in
-    let comma = sym (at-sign .sign .ensures) ∙ c .before .before .if2 .left in
-    let T = took-first (start .pre .1 .0 .1) (start .pre .1 .1) (at-if1 .if1 .left) first comma in
-    (omega (arith, T .ahead, T .within, start .pre .1 .0 .1 .short), (_, begin-second (start .pre .1 .0 .1) (start .pre .1 .1) (at-if1 .if1 .left) first comma))
+pair-node-requires-2 t c κs = let at-node = c .before .before .before .before in
+    let start = first-start t at-node in
+    let first = first-read t at-node (start .pre .1 .0 .1) in
+    let comma = sym (c .before .before .before .sign .ensures) ∙ c .before .before .if2 .left in
+    let T = took-first first comma in
+    (omega (arith, T .ahead, T .within, start .pre .1 .0 .1 .short), (_, begin-second first comma))
 
 pair-sign-requires-2 : (t : ℕ) → pair-lts.Need-sign-requires-2 (pair-claims t) (pair-at t) pair.Post
 unfolding opened shut
-pair-sign-requires-2 t c κs = let at-if2 = c .before .before .before in
-    let at-sign = c .before .before .before .before in
-    let at-node = c .before .before .before .before .before in
-    let at-if1 = c .before .before .before .before .before .before .before in
-    let start = c .before .before .before .before .before .before .before .before .before in
-    answers-place (start .pre .1 .0 .1 .short) (c .node2 .ensures _ (begin-second (start .pre .1 .0 .1) (start .pre .1 .1) (at-if1 .if1 .left) (at-node .node .ensures _ (begin-first (start .pre .1 .0 .1) (start .pre .1 .1) (at-if1 .if1 .left))) (sym (at-sign .sign .ensures) ∙ at-if2 .if2 .left)))
+pair-sign-requires-2 t c κs = second-end (second-read t c (first-start t (first-of t c) .pre .1 .0 .1))
 
 pair-broken-requires-3 : (t : ℕ) → pair-lts.Need-broken-requires-3 (pair-claims t) (pair-at t) pair.Post
 unfolding opened shut
 pair-broken-requires-3 t c κs = let at-node2 = c .before .before .before in
-    let at-if2 = c .before .before .before .before .before .before in
-    let at-sign = c .before .before .before .before .before .before .before in
-    let at-node = c .before .before .before .before .before .before .before .before in
-    let at-if1 = c .before .before .before .before .before .before .before .before .before .before in
-    let start = c .before .before .before .before .before .before .before .before .before .before .before .before in
-    let first = at-node .node .ensures _ (begin-first (start .pre .1 .0 .1) (start .pre .1 .1) (at-if1 .if1 .left)) in
-    let comma = sym (at-sign .sign .ensures) ∙ at-if2 .if2 .left in
-    let second = at-node2 .node2 .ensures _ (begin-second (start .pre .1 .0 .1) (start .pre .1 .1) (at-if1 .if1 .left) first comma) in
-    answers-place (start .pre .1 .0 .1 .short) second
+    let second = second-read t at-node2 (first-start t (first-of t at-node2) .pre .1 .0 .1) in
+    second-end second
 
 pair-returns-3 : (t : ℕ) → pair-lts.Need-returns-3 (pair-claims t) (pair-at t) pair.Post
 unfolding opened shut
-pair-returns-3 t c = λ u y. let e = c .before .before .before .before .before .before .before .before .before .before .before .before .before .pre .1 .1 in let d = c .before .before .before .before .before .before .before .before .before .before .before .if1 .left in
-    let a = c .before .before .before .before .before .before .before .before .before .node .ensures u (begin-first y e d) in let k = sym (c .before .before .before .before .before .before .before .before .sign .ensures) ∙ c .before .before .before .before .before .before .before .if2 .left in
-    let b = c .before .before .before .before .node2 .ensures u (begin-second y e d a k) in
-    inr (broke-second y e d a k b (λ q. c .before .before .if3 .taken (c .before .before .before .sign2 .ensures ∙ q)) (c .broken3 .ensures))
+pair-returns-3 t c = λ u y. inr (broke-second (second-read t (c .before .before .before .before) y) (λ q. c .before .before .if3 .taken (c .before .before .before .sign2 .ensures ∙ q)) (c .broken3 .ensures))
 
 pair-close-requires : (t : ℕ) → pair-lts.Need-close-requires (pair-claims t) (pair-at t) pair.Post
 unfolding opened shut
 pair-close-requires t c κs = let at-node2 = c .before .before .before in
-    let at-if2 = c .before .before .before .before .before .before in
-    let at-sign = c .before .before .before .before .before .before .before in
-    let at-node = c .before .before .before .before .before .before .before .before in
-    let at-if1 = c .before .before .before .before .before .before .before .before .before .before in
-    let start = c .before .before .before .before .before .before .before .before .before .before .before .before in
-    let first = at-node .node .ensures _ (begin-first (start .pre .1 .0 .1) (start .pre .1 .1) (at-if1 .if1 .left)) in
-    let comma = sym (at-sign .sign .ensures) ∙ at-if2 .if2 .left in
-    let second = at-node2 .node2 .ensures _ (begin-second (start .pre .1 .0 .1) (start .pre .1 .1) (at-if1 .if1 .left) first comma) in
-    closing (start .pre .1 .0 .1) (start .pre .1 .1) (at-if1 .if1 .left) first comma second (sym (c .before .before .sign2 .ensures) ∙ c .before .if3 .left)
+    let second = second-read t at-node2 (first-start t (first-of t at-node2) .pre .1 .0 .1) in
+    closing second (sym (c .before .before .sign2 .ensures) ∙ c .before .if3 .left)
 
 pair-element-copy-out-m : (t : ℕ) → pair-lts.Need-element-copy-out-m (pair-claims t) (pair-at t) pair.Post
 unfolding opened shut
@@ -226,18 +226,10 @@ pair-element-copy-out-m t c = search needs
 
 pair-add-m : (t : ℕ) → pair-lts.Need-add-m (pair-claims t) (pair-at t) pair.Post
 unfolding opened shut
-pair-add-m t c = let at-if3 = c .before .before .before in
-    let at-sign2 = c .before .before .before .before in
-    let at-node2 = c .before .before .before .before .before in
-    let at-if2 = c .before .before .before .before .before .before .before .before in
-    let at-sign = c .before .before .before .before .before .before .before .before .before in
-    let at-node = c .before .before .before .before .before .before .before .before .before .before in
-    let at-if1 = c .before .before .before .before .before .before .before .before .before .before .before .before in
-    let start = c .before .before .before .before .before .before .before .before .before .before .before .before .before .before in
-    let first = at-node .node .ensures _ (begin-first (start .pre .1 .0 .1) (start .pre .1 .1) (at-if1 .if1 .left)) in
-    let comma = sym (at-sign .sign .ensures) ∙ at-if2 .if2 .left in
-    let second = at-node2 .node2 .ensures _ (begin-second (start .pre .1 .0 .1) (start .pre .1 .1) (at-if1 .if1 .left) first comma) in
-    omega (arith, ap (λ (l : List ℕ). getD l 8 0) (c .before .close .ensures), pair-depth (start .pre .1 .0 .1) (start .pre .1 .1) (at-if1 .if1 .left) first comma second (sym (at-sign2 .sign2 .ensures) ∙ at-if3 .if3 .left), start .pre .1 .0 .1 .deep)
+pair-add-m t c = let at-node2 = c .before .before .before .before .before in
+    let y = first-start t (first-of t at-node2) .pre .1 .0 .1 in
+    let depth = pair-depth (second-read t at-node2 y) (sym (c .before .before .before .before .sign2 .ensures) ∙ c .before .before .before .if3 .left) in
+    omega (arith, ap (λ (l : List ℕ). getD l 8 0) (c .before .close .ensures), depth, y .deep)
 
 pair-element-write-m-2 : (t : ℕ) → pair-lts.Need-element-write-m-2 (pair-claims t) (pair-at t) pair.Post
 unfolding opened shut
@@ -246,30 +238,13 @@ pair-element-write-m-2 t c = search needs
 pair-add-result : (t : ℕ) → pair-lts.Need-add-result (pair-claims t) (pair-at t) pair.Post
 unfolding opened shut
 pair-add-result t c = let at-node2 = c .before .before .before .before .before in
-    let at-if2 = c .before .before .before .before .before .before .before .before in
-    let at-sign = c .before .before .before .before .before .before .before .before .before in
-    let at-node = c .before .before .before .before .before .before .before .before .before .before in
-    let at-if1 = c .before .before .before .before .before .before .before .before .before .before .before .before in
-    let start = c .before .before .before .before .before .before .before .before .before .before .before .before .before .before in
-    let first = at-node .node .ensures _ (begin-first (start .pre .1 .0 .1) (start .pre .1 .1) (at-if1 .if1 .left)) in
-    let comma = sym (at-sign .sign .ensures) ∙ at-if2 .if2 .left in
-    let second = at-node2 .node2 .ensures _ (begin-second (start .pre .1 .0 .1) (start .pre .1 .1) (at-if1 .if1 .left) first comma) in
-    omega (arith, answers-place (start .pre .1 .0 .1 .short) second)
+    let second = second-read t at-node2 (first-start t (first-of t at-node2) .pre .1 .0 .1) in
+    omega (arith, second-end second)
 
 pair-returns-4 : (t : ℕ) → pair-lts.Need-returns-4 (pair-claims t) (pair-at t) pair.Post
 unfolding opened shut
-pair-returns-4 t c = let at-if3 = c .before .before .before in
-    let at-sign2 = c .before .before .before .before in
-    let at-node2 = c .before .before .before .before .before in
-    let at-if2 = c .before .before .before .before .before .before .before .before in
-    let at-sign = c .before .before .before .before .before .before .before .before .before in
-    let at-node = c .before .before .before .before .before .before .before .before .before .before in
-    let at-if1 = c .before .before .before .before .before .before .before .before .before .before .before .before in
-    let start = c .before .before .before .before .before .before .before .before .before .before .before .before .before .before in
-    λ u y. let e = start .pre .1 .1 in let d = at-if1 .if1 .left in
-    let a = at-node .node .ensures u (begin-first y e d) in let k = sym (at-sign .sign .ensures) ∙ at-if2 .if2 .left in
-    let b = at-node2 .node2 .ensures u (begin-second y e d a k) in
-    inl (took-pair y e d a k b (sym (at-sign2 .sign2 .ensures) ∙ at-if3 .if3 .left) (ap (λ (l : List ℕ). set l 8 (getD l 8 0 + 1)) (c .before .close .ensures)))
+pair-returns-4 t c = λ u y.
+    inl (took-pair (second-read t (c .before .before .before .before .before) y) (sym (c .before .before .before .before .sign2 .ensures) ∙ c .before .before .before .if3 .left) (ap (λ (l : List ℕ). set l 8 (getD l 8 0 + 1)) (c .before .close .ensures)))
 
 pub +node+pair-spec : {M : Type 1} → statement M
 +node+pair-spec = close μ-node μ-pair (λ t. node-lts.spec (node-claims t)
