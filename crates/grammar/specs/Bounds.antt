@@ -1,7 +1,7 @@
 -- The codes of the children of a tree's pairs are small. Main definition: SecondsBelow. Main result: pairs-small.
 use mathlib.Core.Path.{refl}
 use mathlib.Core.List.{List, [], _∷_, _++_}
-use Prim.Native.Nat.{ℕ, _+_, _-_, _≤_, _<_}
+use Prim.Native.Nat.{ℕ, _+_, _≤_, _<_}
 use native.Mathlib.Omega.{arith}
 use borrow.Author.Tests.{eq-eqb}
 use Rattle.rules.specs.Tree.{Tree, leaf, node, has}

@@ -2,7 +2,7 @@
 -- Main definitions: pairCount, childCode, pairsFrom. Main results: pairs-length, size-pairs.
 use mathlib.Core.Path.{_≡_, refl}
 use mathlib.Core.List.{List, [], _∷_, _++_}
-use Prim.Native.Nat.{ℕ, _+_, _-_}
+use Prim.Native.Nat.{ℕ, _+_}
 use native.Mathlib.Omega.{arith}
 use lib.ListN.{length, length-append}
 use Rattle.rules.specs.Tree.{Tree, leaf, node, size}

@@ -3,7 +3,7 @@ use answering::hand_out;
 use answering::refuse;
 use rules::Answer;
 use rules::Kind;
-use texts::Given;
+use text_vector::TextVector;
 use vector_calls::check;
 ghost use Rattle.rules.specs.Promise.{Keeps};
 ghost use Rattle.rules.specs.CallToNewick.{to-newick-call};
@@ -34,10 +34,10 @@ pub fn from_newick(text: &[u8], out: &mut [u16]) -> Answer
         return refuse(Kind::InputLength, 6056);
     }
     let mut vector = [0u16; 1024];
-    match texts::read_vector(text, &mut vector) {
-        Given::Breaks(place) => refuse(Kind::Grammar, place),
-        Given::TooMany => refuse(Kind::LeafCount, 0),
-        Given::Label(place) => refuse(Kind::Label, place),
-        Given::Entries(n) => hand_out(&vector, n, out),
+    match text_vector::read_vector(text, &mut vector) {
+        TextVector::Breaks(place) => refuse(Kind::Grammar, place),
+        TextVector::TooMany => refuse(Kind::LeafCount, 0),
+        TextVector::Label(place) => refuse(Kind::Label, place),
+        TextVector::Entries(n) => hand_out(&vector, n, out),
     }
 }

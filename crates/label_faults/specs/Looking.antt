@@ -1,0 +1,191 @@
+-- The second look at a text, byte by byte, for the first label at fault.
+-- Main definitions: nextStart, nextNumber, Looking. Main results: look-start, look-digit, look-large, look-used, look-fresh, look-pass, look-end.
+use mathlib.Core.Path.{_≡_, refl, ap, ap₂, sym, _∙_}
+use mathlib.Core.Bool.{Bool, true, false, cond, not, _||_, true≢false}
+use mathlib.Core.List.{List, [], _∷_}
+use mathlib.Core.Option.{Option, none, some}
+use Prim.Native.Nat.{ℕ, _+_, _-_, _*_, _≤_, _<_}
+use native.Mathlib.Omega.{arith}
+use native.Mathlib.Numerals.{add-one}
+use lib.Dec.{eqb, ltb}
+use lib.ListN.{length, getD, set, drop, length-set, drop-of-length-le}
+use lib.Seq.{drop-cons, getD-set-same, getD-set-other}
+use borrow.Author.Tests.{lt-ltb, le-ltb, eqb-true, eqb-false}
+use Rattle.rules.specs.Building.{member}
+use Rattle.rules.specs.Newick.{Placed, isDigit, withDigit, ending, labelsFrom, labelsOf, labelFault}
+use Rattle.text_laws.specs.Cells.{Blank}
+
+-- the label being read, if one is: its place and its number so far
+unfoldable pub reading : Bool → ℕ → ℕ → Option Placed
+reading false start x = none
+reading true start x = some (start, x)
+
+-- a digit begins a label, or goes on with the one being read
+unfoldable pub nextStart : Bool → ℕ → ℕ → ℕ
+nextStart inside start at = cond inside start at
+
+unfoldable pub nextNumber : Bool → ℕ → ℕ → ℕ
+nextNumber inside x c = cond inside (10 * x + (c - 48)) (c - 48)
+
+pub start-inside : (b : Bool) (start at : ℕ) → b ≡ true → start ≡ nextStart b start at
+unfolding nextStart
+start-inside b start at e = rw e
+
+pub start-outside : (b : Bool) (start at : ℕ) → b ≡ false → at ≡ nextStart b start at
+unfolding nextStart
+start-outside b start at e = rw e
+
+pub number-inside : (b : Bool) (x c : ℕ) → b ≡ true → 10 * x + (c - 48) ≡ nextNumber b x c
+unfolding nextNumber
+number-inside b x c e = rw e
+
+pub number-outside : (b : Bool) (x c : ℕ) → b ≡ false → c - 48 ≡ nextNumber b x c
+unfolding nextNumber
+number-outside b x c e = rw e
+
+-- the bytes before a place are looked at: no label that ends there is at fault
+pub record Looking (s : List ℕ) (n : ℕ) (used : List ℕ) (at : ℕ) (inside : Bool) (start x : ℕ) : Type 0 where
+  pub seen : List ℕ
+  pub few : n ≤ 1024
+  pub within : at ≤ length s
+  pub room : length used ≡ 1024
+  pub small : inside ≡ true → x < n
+  pub marks : (y : ℕ) → y < 1024 → getD used y 0 ≡ cond (member y seen) 1 0
+  pub rest : labelFault n [] (labelsOf s) ≡ labelFault n seen (labelsFrom at (reading inside start x) (drop at s))
+
+pub look-start : {s : List ℕ} {n : ℕ} {used : List ℕ} → n ≤ 1024 → length used ≡ 1024 → Blank used → Looking s n used 0 false 0 0
+unfolding reading labelsOf member
+look-start h r u = record { seen = []; few = h; within = omega arith; room = r; small = λ q. absurd (true≢false (sym q)); marks = λ y l. u y; rest = refl }
+
+-- a label that reaches n is at fault, whatever digits follow
+grown-fault : (n : ℕ) (seen : List ℕ) (start x at : ℕ) (s : List ℕ) → n ≤ x → labelFault n seen (labelsFrom at (some (start, x)) s) ≡ some start
+unfolding labelFault labelsFrom ending withDigit
+grown-fault n seen start x at [] h = rw (le-ltb x n h)
+grown-fault n seen start x at (c ∷ s) h = go (isDigit c) refl (grown-fault n seen start (10 * x + (c - 48)) (at + 1) s (omega arith))
+  where
+    go : (b : Bool) → isDigit c ≡ b → labelFault n seen (labelsFrom (at + 1) (some (start, 10 * x + (c - 48))) s) ≡ some start
+        → labelFault n seen (ending (cond b none (some (start, x))) (labelsFrom (at + 1) (cond b (withDigit at c (some (start, x))) none) s)) ≡ some start
+    go true e more = more
+    go false e more = rw (le-ltb x n h)
+
+module _ {s : List ℕ} {n : ℕ} {used : List ℕ} {at : ℕ} {inside : Bool} {start x : ℕ} (L : Looking s n used at inside start x) where
+  -- at the end the label being read is the one at fault, since one is
+  pub look-end : length s ≤ at → (labelFault n [] (labelsOf s) ≡ none → ⊥) → some start ≡ labelFault n [] (labelsOf s)
+  unfolding labelFault labelsFrom ending reading
+  look-end h some-fault = go inside (L .rest ∙ ap (λ (r : List ℕ). labelFault n (L .seen) (labelsFrom at (reading inside start x) r)) (drop-of-length-le s h))
+    where
+      last : (b : Bool) → labelFault n [] (labelsOf s) ≡ cond b (some start) none → some start ≡ labelFault n [] (labelsOf s)
+      last true e = sym e
+      last false e = absurd (some-fault e)
+
+      go : (b : Bool) → labelFault n [] (labelsOf s) ≡ labelFault n (L .seen) (labelsFrom at (reading b start x) []) → some start ≡ labelFault n [] (labelsOf s)
+      go true e = last (not (ltb x n) || member x (L .seen)) e
+      go false e = absurd (some-fault e)
+
+  module _ (h : at < length s) where
+    this-sign : drop at s ≡ getD s at 0 ∷ drop (at + 1) s
+    this-sign = rw (add-one, drop-cons s at 0 h)
+
+    -- a digit: the label being read goes on, or one begins
+    module _ (d : isDigit (getD s at 0) ≡ true) where
+      more : (b : Bool) → inside ≡ b
+          → labelFault n [] (labelsOf s) ≡ labelFault n (L .seen) (labelsFrom (at + 1) (some (nextStart b start at, nextNumber b x (getD s at 0))) (drop (at + 1) s))
+      unfolding labelsFrom ending withDigit reading nextStart nextNumber
+      more b e =
+          L .rest ∙ ap (λ (r : List ℕ). labelFault n (L .seen) (labelsFrom at (reading inside start x) r)) this-sign
+          ∙ ap (λ (c : Bool). labelFault n (L .seen) (ending (cond c none (reading inside start x)) (labelsFrom (at + 1) (cond c (withDigit at (getD s at 0) (reading inside start x)) none) (drop (at + 1) s)))) d
+          ∙ ap (λ (i : Bool). labelFault n (L .seen) (labelsFrom (at + 1) (withDigit at (getD s at 0) (reading i start x)) (drop (at + 1) s))) e ∙ go b
+        where
+          go : (b : Bool)
+              → labelFault n (L .seen) (labelsFrom (at + 1) (withDigit at (getD s at 0) (reading b start x)) (drop (at + 1) s))
+              ≡ labelFault n (L .seen) (labelsFrom (at + 1) (some (cond b start at, cond b (10 * x + (getD s at 0 - 48)) (getD s at 0 - 48))) (drop (at + 1) s))
+          go true = refl
+          go false = refl
+
+      pub look-large : {start′ x′ : ℕ} → start′ ≡ nextStart inside start at → x′ ≡ nextNumber inside x (getD s at 0) → n ≤ x′ → some start′ ≡ labelFault n [] (labelsOf s)
+      look-large {start′} {x′} p q g =
+          ap (λ (k : ℕ). some k) p
+          ∙ sym (more inside refl ∙ grown-fault n (L .seen) (nextStart inside start at) (nextNumber inside x (getD s at 0)) (at + 1) (drop (at + 1) s) (omega arith))
+
+      pub look-digit : {start′ x′ : ℕ} → start′ ≡ nextStart inside start at → x′ ≡ nextNumber inside x (getD s at 0) → x′ < n → Looking s n used (at + 1) true start′ x′
+      unfolding reading
+      look-digit {start′} {x′} p q g = record {
+        seen = L .seen;
+        few = L .few;
+        within = omega arith;
+        room = L .room;
+        small = λ e. g;
+        marks = L .marks;
+        rest = more inside refl ∙ ap₂ (λ (a b : ℕ). labelFault n (L .seen) (labelsFrom (at + 1) (some (a, b)) (drop (at + 1) s))) (sym p) (sym q);
+      }
+
+    -- another sign: the label being read ends
+    module _ (d : isDigit (getD s at 0) ≡ false) where
+      ends : labelFault n [] (labelsOf s) ≡ labelFault n (L .seen) (ending (reading inside start x) (labelsFrom (at + 1) none (drop (at + 1) s)))
+      unfolding labelsFrom
+      ends =
+          L .rest ∙ ap (λ (r : List ℕ). labelFault n (L .seen) (labelsFrom at (reading inside start x) r)) this-sign
+          ∙ ap (λ (c : Bool). labelFault n (L .seen) (ending (cond c none (reading inside start x)) (labelsFrom (at + 1) (cond c (withDigit at (getD s at 0) (reading inside start x)) none) (drop (at + 1) s)))) d
+
+      pub look-pass : inside ≡ false → Looking s n used (at + 1) inside start x
+      unfolding reading ending
+      look-pass e = record {
+        seen = L .seen;
+        few = L .few;
+        within = omega arith;
+        room = L .room;
+        small = λ q. absurd (true≢false (sym q ∙ e));
+        marks = L .marks;
+        rest =
+            ends ∙ ap (λ (b : Bool). labelFault n (L .seen) (ending (reading b start x) (labelsFrom (at + 1) none (drop (at + 1) s)))) e
+            ∙ sym (ap (λ (b : Bool). labelFault n (L .seen) (labelsFrom (at + 1) (reading b start x) (drop (at + 1) s))) e);
+      }
+
+      module _ (e : inside ≡ true) where
+        this-label : labelFault n [] (labelsOf s)
+            ≡ cond (not (ltb x n) || member x (L .seen)) (some start) (labelFault n (x ∷ L .seen) (labelsFrom (at + 1) none (drop (at + 1) s)))
+        unfolding reading ending labelFault
+        this-label = ends ∙ ap (λ (b : Bool). labelFault n (L .seen) (ending (reading b start x) (labelsFrom (at + 1) none (drop (at + 1) s)))) e
+
+        below : x < n
+        below = L .small e
+
+        used-is : (b : Bool) → member x (L .seen) ≡ b → getD used x 0 ≡ cond b 1 0
+        used-is b q = L .marks x (omega (arith, below, L .few)) ∙ ap (λ (c : Bool). cond c 1 0) q
+
+        pub number-small : x < 1024
+        number-small = omega (arith, below, L .few)
+
+        pub look-used : (getD used x 0 ≡ 0 → ⊥) → some start ≡ labelFault n [] (labelsOf s)
+        look-used u = sym (this-label ∙ rw (lt-ltb x n below) (go (member x (L .seen)) refl))
+          where
+            go : (b : Bool) → member x (L .seen) ≡ b → cond (false || b) (some start) (labelFault n (x ∷ L .seen) (labelsFrom (at + 1) none (drop (at + 1) s))) ≡ some start
+            go true q = refl
+            go false q = absurd (u (used-is false q))
+
+        pub look-fresh : getD used x 0 ≡ 0 → Looking s n (set used x 1) (at + 1) false start x
+        unfolding reading member
+        look-fresh u = record {
+          seen = x ∷ L .seen;
+          few = L .few;
+          within = omega arith;
+          room = length-set used x 1 ∙ L .room;
+          small = λ q. absurd (true≢false (sym q));
+          marks = λ y l. go y l (eqb y x) refl;
+          rest = this-label ∙ rw (lt-ltb x n below) (fresh (member x (L .seen)) refl);
+        }
+          where
+            fresh : (b : Bool) → member x (L .seen) ≡ b
+                → cond (false || b) (some start) (labelFault n (x ∷ L .seen) (labelsFrom (at + 1) none (drop (at + 1) s))) ≡ labelFault n (x ∷ L .seen) (labelsFrom (at + 1) none (drop (at + 1) s))
+            fresh true q = absurd (let k : getD used x 0 ≡ 1 = used-is true q in omega arith)
+            fresh false q = refl
+
+            go : (y : ℕ) → y < 1024 → (b : Bool) → eqb y x ≡ b → getD (set used x 1) y 0 ≡ cond (b || member y (L .seen)) 1 0
+            go y l true q =
+                let z : y ≡ x = eqb-true y x q in
+                rw (← z) (getD-set-same used y 1 0 (omega (arith, L .room)))
+            go y l false q = getD-set-other used x y 1 0 (eqb-false y x q) ∙ L .marks y l
+
+pub looking-as : {s : List ℕ} {n : ℕ} {used used′ : List ℕ} {at : ℕ} {inside inside′ : Bool} {start start′ x x′ : ℕ} → used′ ≡ used → inside′ ≡ inside → start′ ≡ start → x′ ≡ x
+    → Looking s n used at inside start x → Looking s n used′ at inside′ start′ x′
+looking-as e f g h L = rw (e, f, g, h) L

@@ -1,4 +1,0 @@
-pub mod Lent
-pub mod Marks
-pub mod Numbered
-pub mod Recorded

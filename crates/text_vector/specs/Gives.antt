@@ -1,0 +1,131 @@
+-- What a text gives, by what the public call makes of it.
+-- Main definitions: Holds, Gives, Taken. Main results: held-there, too-many, label-found, some-fault, table-read, vector-held.
+use mathlib.Core.Bool.{Bool, true, false, cond}
+use mathlib.Core.List.{List, [], _++_, map}
+use mathlib.Core.Option.{none, some}
+use mathlib.Core.Path.{_≡_, refl, sym, ap, _∙_, subst}
+use Prim.Native.Nat.{ℕ, _+_, _-_, _≤_, _<_}
+use native.Mathlib.Omega.{arith}
+use lib.ListN.{length, take, drop, length-take, length-drop}
+use lib.Seq.{take-at, sets}
+use borrow.Author.Tests.{lt-ltb}
+use Rattle.rules.specs.Tree.{has, LeavesBelow}
+use Rattle.rules.specs.Order.{vectorOf}
+use Rattle.rules.specs.Newick.{labelsOf, labelFault}
+use Rattle.rules.specs.Answer.{Made, made, refuses}
+use Rattle.rules.specs.Guards.{refuseAt}
+use Rattle.rules.specs.CallFromNewick.{fromLabels, FromText, reads-as}
+use Rattle.accepting.specs.Guards.{many-leaves, some-leaves, refuse-at, pass-at}
+use Rattle.laws.specs.OneToOne.{every-tree}
+use Rattle.grammar.specs.Labels.{text-label-count}
+use Rattle.grammar.specs.Pairs.{pairsFrom, size-pairs}
+use Rattle.grammar.specs.Faults.{no-fault-leaves}
+use Rattle.grammar.specs.Once.{each-leaf-no-fault}
+use Rattle.text_laws.specs.Cells.{cell, begun, Blank, begun-cells, begun-other}
+use Rattle.text_laws.specs.Answers.{TextTook}
+use Rattle.label_faults.specs.Marks.{EachOnce}
+use Rattle.text_laws.specs.Recorded.{children, kept-cells, pairs-there, marks-there, TableOf, recordedRows, table-recorded}
+use Rattle.text_vector.specs.declared.TextVector.{TextVector}
+use Rattle.text_vector.specs.declared.TextVector.the-variants.{Entries, Breaks, TooMany, Label}
+
+-- the text's vector stands at the front of vector
+pub record Holds (s : List ℕ) (n : ℕ) (vector : List ℕ) : Type 0 where
+  pub count : length (take n vector) ≡ n
+  pub makes : FromText s (made (take n vector))
+
+pub held-there : {s : List ℕ} {n : ℕ} {vector : List ℕ} → Holds s n vector → n ≤ length vector
+held-there {n = n} {vector} H = omega (arith, H .count, length-take n vector)
+
+abbrev pub Gives : List ℕ → List ℕ → TextVector → Type 0
+Gives s vector (Entries n) = Holds s n vector
+Gives s vector (Breaks k) = FromText s (refuses 8 k)
+Gives s vector TooMany = FromText s (refuses 1 0)
+Gives s vector (Label k) = FromText s (refuses 9 k)
+
+-- a text of n labels is read into an array of zeros
+pub record Taken (s m m′ : List ℕ) (n : ℕ) : Type 0 where
+  pub short : length s ≤ 6056
+  pub took : TextTook s m m′ n
+  pub room : length m ≡ 2576
+  pub blank : Blank m
+
+module _ {s m m′ : List ℕ} {n : ℕ} (K : Taken s m m′ n) where
+  abbrev T : TextTook s m m′ n
+  T = K .took
+
+  makes-labels : (o : Made) → fromLabels s (T .tree) ≡ o → FromText s o
+  makes-labels o e = subst (FromText s) e (reads-as (T .tree) (K .short) (T .reads-as))
+
+  count : length (labelsOf s) ≡ n
+  count = omega (arith, T .leaves, text-label-count (T .reads-as), size-pairs (T .tree))
+
+  pub some-labels : 1 ≤ n
+  some-labels = omega (arith, T .leaves)
+
+  pub too-many : 1024 < n → FromText s (refuses 1 0)
+  unfolding fromLabels
+  too-many h = makes-labels (refuses 1 0) (many-leaves (length (labelsOf s)) _ (omega (arith, count)))
+
+  checked : n ≤ 1024 → fromLabels s (T .tree) ≡ refuseAt 9 (labelFault n [] (labelsOf s)) (made (vectorOf (T .tree)))
+  unfolding fromLabels
+  checked h =
+      some-leaves (length (labelsOf s)) _ (omega (arith, count, some-labels)) (omega (arith, count))
+      ∙ ap (λ (k : ℕ). refuseAt 9 (labelFault k [] (labelsOf s)) (made (vectorOf (T .tree)))) count
+
+  pub label-found : n ≤ 1024 → (k : ℕ) → some k ≡ labelFault n [] (labelsOf s) → FromText s (refuses 9 k)
+  label-found few k e = makes-labels (refuses 9 k) (checked few ∙ refuse-at 9 k _ _ (sym e))
+
+  pub array-kept : length m′ ≡ 2576
+  array-kept =
+      let c = begun-cells m (K .room) in
+      ap length (T .there) ∙ kept-cells (T .tree) (begun m) (omega (arith, c .0)) (omega (arith, c .1)) .long ∙ c .0
+
+  module _ (few : n ≤ 1024) where
+    mark-is : (x : ℕ) → x < n → cell m′ (16 + x) ≡ cond (has (T .tree) x) 1 0
+    mark-is x h =
+        let c = begun-cells m (K .room) in
+        let z : cell (begun m) (16 + x) ≡ 0 = begun-other m (16 + x) (λ q. omega arith) (λ q. omega arith) ∙ K .blank (16 + x) in
+        ap (λ (l : List ℕ). cell l (16 + x)) (T .there) ∙ marks-there (T .tree) (begun m) (c .0) (omega (arith, c .1)) x (omega arith) ∙ ap (cond (has (T .tree) x) 1) z
+
+    -- a label without its mark: some label is at fault
+    pub some-fault : EachOnce m′ n false → labelFault n [] (labelsOf s) ≡ none → ⊥
+    some-fault (x, h, e) q =
+        let b : LeavesBelow (length (labelsOf s)) (T .tree) = no-fault-leaves (T .reads-as) (ap (λ (k : ℕ). labelFault k [] (labelsOf s)) count ∙ q) in
+        let f : has (T .tree) x ≡ true = b .all x ∙ lt-ltb x (length (labelsOf s)) (omega (arith, count)) in
+        let g : cell m′ (16 + x) ≡ 1 = mark-is x h ∙ ap (λ (c : Bool). cond c 1 0) f in
+        omega arith
+
+    module _ (once : EachOnce m′ n true) where
+      has-each : (x : ℕ) → x < n → has (T .tree) x ≡ true
+      has-each x h = go (has (T .tree) x) refl
+        where
+          go : (b : Bool) → has (T .tree) x ≡ b → has (T .tree) x ≡ true
+          go true e = e
+          go false e = absurd (once x h (mark-is x h ∙ ap (λ (c : Bool). cond c 1 0) e))
+
+      no-fault′ : labelFault (length (labelsOf s)) [] (labelsOf s) ≡ none
+      no-fault′ = each-leaf-no-fault (T .reads-as) (λ x h. has-each x (omega (arith, count)))
+
+      no-fault : labelFault n [] (labelsOf s) ≡ none
+      no-fault = ap (λ (k : ℕ). labelFault k [] (labelsOf s)) (sym count) ∙ no-fault′
+
+      leaves : LeavesBelow n (T .tree)
+      leaves = subst (λ (k : ℕ). LeavesBelow k (T .tree)) count (no-fault-leaves (T .reads-as) no-fault′)
+
+      pub table-read : TableOf n (T .tree) (recordedRows n (drop 1040 m′))
+      table-read =
+          let c = begun-cells m (K .room) in
+          let z : cell (begun m) 4 - 16384 ≡ 0 = omega arith in
+          let e : drop 1040 m′ ≡ sets (drop 1040 (begun m)) 0 (map children (pairsFrom 0 (T .tree))) =
+          ap (drop 1040) (T .there) ∙ pairs-there (T .tree) (begun m) (omega arith) (omega arith)
+          ∙ ap (λ (k : ℕ). sets (drop 1040 (begun m)) k (map children (pairsFrom k (T .tree)))) z in
+          table-recorded n (T .tree) (drop 1040 (begun m)) (drop 1040 m′) leaves few (omega (arith, length-drop 1040 (begun m))) e
+
+      pub vector-held : (vector rest : List ℕ) → vector ≡ vectorOf (T .tree) ++ rest → Holds s n vector
+      vector-held vector rest v =
+          let l : length (vectorOf (T .tree)) ≡ n = every-tree n (T .tree) leaves .entries in
+          let f : take n vector ≡ vectorOf (T .tree) = ap (take n) v ∙ take-at (vectorOf (T .tree)) rest n l in
+          record {
+            count = ap length f ∙ l;
+            makes = makes-labels _ (checked few ∙ pass-at 9 _ _ no-fault ∙ ap made (sym f));
+          }

@@ -1,2 +1,0 @@
-pub mod Kept
-pub mod Given
