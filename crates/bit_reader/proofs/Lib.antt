@@ -1,0 +1,4 @@
+mod Thin
+pub mod Position
+pub mod NextCall
+pub mod Start
