@@ -1,15 +1,14 @@
 -- Four fields of one width in one word: the last stands at the low end, and each shift by the width brings the one before it there.
--- Main results: four-values, four-there, four-lt, parts-lt.
+-- Main results: four-values, four-there.
 use mathlib.Core.Path.{_≡_, sym, ap, _∙_}
 use mathlib.Core.List.{List}
 use Prim.Native.Nat.{ℕ, _+_, _-_, _*_, _/_, _%_, _<_, _≤_, _^_}
-use native.Mathlib.Nat.{div-one, le-trans}
+use native.Mathlib.Nat.{div-one}
 use native.Mathlib.Omega.{arith}
 use lib.ListN.{length, getD, set}
-use lib.Pow.{pow-mono, shr-shr}
-use Rattle.record_laws.specs.Number.{joined-lt}
+use lib.Pow.{shr-shr}
 use Rattle.record_laws.specs.Window.{valueAt, wordAt, value-word}
-use Rattle.bits.specs.Fields.{fieldRead, fourRead, fourOf}
+use Rattle.bits.specs.Fields.{fieldRead, fourRead}
 
 module _ (s : List ℕ) (at w : ℕ) (b : (i : ℕ) → getD s i 0 < 256) (l : at / 8 + 8 ≤ length s) (f : w ≤ 14) where
   -- the word, with the last of four fields at the low end
@@ -45,23 +44,3 @@ module _ (s : List ℕ) (at w : ℕ) (b : (i : ℕ) → getD s i 0 < 256) (l : a
   four-there out i {e} {p} {q} {r} {t} h a b c d =
       let f = four-values in
       rw (a, b, c, d, h, f .0, f .1, f .2, f .3)
-
--- four numbers of w bits, one behind the other
-module _ (v : List ℕ) (i w : ℕ) (h : (j : ℕ) → i ≤ j → j < i + 4 → getD v j 0 < 2 ^ w) where
-  pub each-lt : (getD v i 0 < 2 ^ w) × (getD v (i + 1) 0 < 2 ^ w) × (getD v (i + 2) 0 < 2 ^ w) × (getD v (i + 3) 0 < 2 ^ w)
-  each-lt = (h i (omega arith) (omega arith), h (i + 1) (omega arith) (omega arith), h (i + 2) (omega arith) (omega arith), h (i + 3) (omega arith) (omega arith))
-
-  pub four-lt : fourOf v i w < 2 ^ (4 * w)
-  unfolding fourOf
-  four-lt =
-      let e : w + w + w + w ≡ 4 * w = omega arith in
-      rw e at (joined-lt (w + w + w) w (joined-lt (w + w) w (joined-lt w w (each-lt .0) (each-lt .1)) (each-lt .2)) (each-lt .3))
-
-  -- on the way to the four, nothing is too long
-  pub parts-lt : w ≤ 14 → (getD v i 0 < 2 ^ 48) × (getD v i 0 * 2 ^ w + getD v (i + 1) 0 < 2 ^ 48)
-      × ((getD v i 0 * 2 ^ w + getD v (i + 1) 0) * 2 ^ w + getD v (i + 2) 0 < 2 ^ 48)
-  parts-lt l = (
-    le-trans (each-lt .0) (pow-mono {i = w} {j = 48} (omega arith)),
-    le-trans (joined-lt w w (each-lt .0) (each-lt .1)) (pow-mono {i = w + w} {j = 48} (omega arith)),
-    le-trans (joined-lt (w + w) w (joined-lt w w (each-lt .0) (each-lt .1)) (each-lt .2)) (pow-mono {i = w + w + w} {j = 48} (omega arith)),
-  )

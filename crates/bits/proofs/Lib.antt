@@ -1,4 +1,1 @@
-mod Masking
 mod Four
-mod Writing
-mod Thin

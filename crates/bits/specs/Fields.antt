@@ -1,8 +1,8 @@
--- Fields read into a buffer: one, and four of one width; and four numbers made one.
--- Main definitions: fieldRead, fourRead, FieldInside, FourInside, fourOf.
+-- Fields read into a buffer: one, and four of one width.
+-- Main definitions: fieldRead, fourRead, FieldInside, FourInside.
 use mathlib.Core.List.{List}
 use Prim.Native.Nat.{ℕ, _+_, _*_, _/_, _^_, _≤_, _<_}
-use lib.ListN.{length, getD, set}
+use lib.ListN.{length, set}
 use Rattle.record_laws.specs.Window.{valueAt}
 
 -- the number of a field of w bits from bit at on, in place i
@@ -20,7 +20,3 @@ FieldInside s at w room i = (w ≤ 16) × (at + w ≤ 8 * length s) × (at + w <
 -- the four fields lie in a word within the bytes, and there are places for them
 abbrev pub FourInside : List ℕ → ℕ → ℕ → ℕ → ℕ → Type 0
 FourInside s at w room i = (1 ≤ w) × (w ≤ 14) × (at / 8 + 8 ≤ length s) × (at + 4 * w < 2 ^ 64) × (i + 4 ≤ room)
-
--- four numbers of w bits from place i on, as one
-unfoldable pub fourOf : List ℕ → ℕ → ℕ → ℕ
-fourOf v i w = ((getD v i 0 * 2 ^ w + getD v (i + 1) 0) * 2 ^ w + getD v (i + 2) 0) * 2 ^ w + getD v (i + 3) 0

@@ -1,3 +1,1 @@
-pub mod Pending
 pub mod Fields
-pub mod Moving

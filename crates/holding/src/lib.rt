@@ -17,5 +17,5 @@ pub fn bytes_wanted(s: &[u8]) -> usize
     if 1024 < leaves {
         return 2;
     }
-    record::record_length(leaves)
+    lengths::record_length(leaves)
 }

@@ -1,7 +1,1 @@
-mod Turning
-mod Again
-mod Table
-mod Runs
-mod Reading
-mod Putting
-mod Packing
+mod Whole

@@ -15,11 +15,11 @@ pub fn pack(v: &[u16], out: &mut [u8]) -> Answer
     match check(v) {
         Answer::Refused(why) => Answer::Refused(why),
         Answer::Done(_) => {
-            let bytes = record::record_length(v.len());
+            let bytes = lengths::record_length(v.len());
             if out.len() < bytes {
                 return refuse(Kind::Room, bytes);
             }
-            record::pack_into(v, out);
+            packing::pack_into(v, out);
             Answer::Done(bytes)
         }
     }
@@ -39,7 +39,7 @@ pub fn unpack(s: &[u8], out: &mut [u16]) -> Answer
     if 1024 < n {
         return refuse(Kind::LeafCount, 0);
     }
-    let wanted = record::record_length(n);
+    let wanted = lengths::record_length(n);
     if s.len() != wanted {
         return refuse(Kind::InputLength, wanted);
     }

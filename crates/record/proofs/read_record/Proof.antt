@@ -6,7 +6,7 @@ use Prim.Native.Nat.{_+_, _*_, _≤_, _^_}
 use lib.ListN.{length, length-set}
 use Rattle.rules.specs.Record.{total, padding}
 use Rattle.record_laws.specs.Fields.{entries-from-header}
-use Rattle.record.proofs.Reading.{record-bits, record-left, padding-inside, parts-of, reading-start, set-value}
+use Rattle.record.proofs.Whole.{record-bits, record-left, padding-inside, parts-of, reading-start, set-value}
 use Rattle.record.proofs.read_record.Statement.{statement}
 use Rattle.record.proofs.read_record.Tie as tie
 

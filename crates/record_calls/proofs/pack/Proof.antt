@@ -11,8 +11,8 @@ use Rattle.record_calls.proofs.pack.Statement.{statement}
 use Rattle.record_calls.proofs.pack.Tie as tie
 use Rattle.record_calls.proofs.pack.Reads as reads
 use Rattle.record_calls.proofs.pack.Lts as lts
-use Rattle.record.proofs.pack_into.Reads as pack-into-reads
-use Rattle.record.proofs.record_length.Reads as record-length-reads
+use Rattle.packing.proofs.pack_into.Reads as pack-into-reads
+use Rattle.lengths.proofs.record_length.Reads as record-length-reads
 use Rattle.vector_calls.proofs.check.Reads as check-reads
 use Rattle.answering.proofs.refuse.Reads as refuse-reads
 

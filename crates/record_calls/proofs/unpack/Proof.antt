@@ -12,7 +12,7 @@ use Rattle.record_calls.proofs.unpack.Tie as tie
 use Rattle.record_calls.proofs.unpack.Reads as reads
 use Rattle.record_calls.proofs.unpack.Lts as lts
 use Rattle.record.proofs.leaf_count.Reads as leaf-count-reads
-use Rattle.record.proofs.record_length.Reads as record-length-reads
+use Rattle.lengths.proofs.record_length.Reads as record-length-reads
 use Rattle.answering.proofs.refuse.Reads as refuse-reads
 use Rattle.unpacking.proofs.entries_of.Reads as entries-of-reads
 use Rattle.lists.proofs.copy_numbers.Reads as copy-numbers-reads

@@ -1,0 +1,54 @@
+// Bits put into bytes, most significant first, by a word of eight bytes.
+ghost use mathlib.Core.Path.{_≡_};
+ghost use Prim.Native.Nat.{_+_, _≤_, _<_, _^_};
+ghost use lib.ListN.{length};
+ghost use Rattle.bit_writer.specs.Pending.{Put, wordStored};
+
+/// Bits on their way into bytes: those before byte `at` are whole, and byte `at` begins with the low `have` bits of `acc`.
+pub struct Pending {
+    pub acc: u64,
+    pub have: u32,
+    pub at: usize,
+}
+
+// Stores the eight bytes of a word.
+fn store_word(out: &mut [u8], at: usize, word: u64)
+    requires { ⌜ at + 8 ≤ length (now out) ⌝ }
+    ensures { λ _. ⌜ now (out .exit) ≡ wordStored (now (out .entry)) at word ⌝ }
+{
+    out[at] = ((word >> 56) % 256) as u8;
+    out[at + 1] = ((word >> 48) % 256) as u8;
+    out[at + 2] = ((word >> 40) % 256) as u8;
+    out[at + 3] = ((word >> 32) % 256) as u8;
+    out[at + 4] = ((word >> 24) % 256) as u8;
+    out[at + 5] = ((word >> 16) % 256) as u8;
+    out[at + 6] = ((word >> 8) % 256) as u8;
+    out[at + 7] = (word % 256) as u8;
+}
+
+/// Appends the `width` bits of x, one at least, by a word that ends in zero bits.
+pub fn put_bits(out: &mut [u8], p: Pending, width: u32, x: u64) -> Pending
+    requires { ⌜ (p .have < 8) × (1 ≤ width) × (width ≤ 56) × (x < 2 ^ width) × (p .at + 8 ≤ length (now out)) ⌝ }
+    ensures { λ r. ⌜ Put p width x (now (out .entry)) r (now (out .exit)) ⌝ }
+{
+    let acc = (p.acc << width) | x;
+    let have = p.have + width;
+    let at = p.at;
+    store_word(out, at, acc << (64 - have));
+    Pending {
+        acc,
+        have: have % 8,
+        at: at + (have / 8) as usize,
+    }
+}
+
+/// Appends the `width` bits of x, or nothing where it has none.
+pub fn put_field(out: &mut [u8], p: Pending, width: u32, x: u64) -> Pending
+    requires { ⌜ (p .have < 8) × (width ≤ 56) × (x < 2 ^ width) × (p .at + 8 ≤ length (now out)) ⌝ }
+    ensures { λ r. ⌜ Put p width x (now (out .entry)) r (now (out .exit)) ⌝ }
+{
+    if width == 0 {
+        return p;
+    }
+    put_bits(out, p, width, x)
+}

@@ -1,0 +1,2 @@
+mod EntryLoop
+pub mod Reading

@@ -1,0 +1,93 @@
+-- `four_entries::four_from` meets its contract: each shift makes room for the next number (`parts-lt`, `four-lt`).
+use native.Mathlib.Omega.{arith}
+use borrow.Author.Needs.{needs}
+use mathlib.Core.Path.{refl}
+use Rattle.four_entries.specs.Four.{fourOf}
+use Rattle.four_entries.proofs.Four.{each-lt, four-lt, parts-lt}
+use Rattle.four_entries.proofs.four_from.Statement.{statement}
+use Rattle.four_entries.proofs.four_from.Tie as tie
+
+mul-long : tie.Need-mul-long
+mul-long c = search needs
+
+shared-slice-read-long : tie.Need-shared-slice-read-long
+shared-slice-read-long c = search needs
+
+long-requires : tie.Need-long-requires
+long-requires c κs = search needs
+
+add-long : tie.Need-add-long
+add-long c = search needs
+
+mul-long-2 : tie.Need-mul-long-2
+mul-long-2 c = search needs
+
+shared-slice-read-long-2 : tie.Need-shared-slice-read-long-2
+shared-slice-read-long-2 c = search needs
+
+long-requires-2 : tie.Need-long-requires-2
+long-requires-2 c κs = search needs
+
+followed-requires : tie.Need-followed-requires
+followed-requires c κs = let a = c .before .before .before .before .before .args in let h = c .before .before .before .before .before .pre .2 in let f = each-lt (a .v .now) (a .i) (a .width) h in let g = parts-lt (a .v .now) (a .i) (a .width) h (omega arith) in (omega arith, rw (c .before .before .long .ensures) (g .0), rw (c .long2 .ensures) (f .1))
+
+add-long-2 : tie.Need-add-long-2
+add-long-2 c = search needs
+
+mul-long-3 : tie.Need-mul-long-3
+mul-long-3 c = search needs
+
+shared-slice-read-long-3 : tie.Need-shared-slice-read-long-3
+shared-slice-read-long-3 c = search needs
+
+long-requires-3 : tie.Need-long-requires-3
+long-requires-3 c κs = search needs
+
+followed-requires-2 : tie.Need-followed-requires-2
+followed-requires-2 c κs = let a = c .before .before .before .before .before .before .before .before .args in let h = c .before .before .before .before .before .before .before .before .pre .2 in let f = each-lt (a .v .now) (a .i) (a .width) h in let g = parts-lt (a .v .now) (a .i) (a .width) h (omega arith) in (omega arith, rw (c .before .before .followed .ensures, c .before .before .before .long2 .ensures, c .before .before .before .before .before .long .ensures) (g .1), rw (c .long3 .ensures) (f .2))
+
+add-long-3 : tie.Need-add-long-3
+add-long-3 c = search needs
+
+mul-long-4 : tie.Need-mul-long-4
+mul-long-4 c = search needs
+
+shared-slice-read-long-4 : tie.Need-shared-slice-read-long-4
+shared-slice-read-long-4 c = search needs
+
+long-requires-4 : tie.Need-long-requires-4
+long-requires-4 c κs = search needs
+
+followed-requires-3 : tie.Need-followed-requires-3
+followed-requires-3 c κs = let a = c .before .before .before .before .before .before .before .before .before .before .before .args in let h = c .before .before .before .before .before .before .before .before .before .before .before .pre .2 in let f = each-lt (a .v .now) (a .i) (a .width) h in let g = parts-lt (a .v .now) (a .i) (a .width) h (omega arith) in (omega arith, rw (c .before .before .followed2 .ensures, c .before .before .before .long3 .ensures, c .before .before .before .before .before .followed .ensures, c .before .before .before .before .before .before .long2 .ensures, c .before .before .before .before .before .before .before .before .long .ensures) (g .2), rw (c .long4 .ensures) (f .3))
+
+returns : tie.Need-returns
+unfolding fourOf
+returns c =
+    let a = c .before .before .before .before .before .before .before .before .before .before .before .before .args in
+    rw (c .followed3 .ensures, c .before .long4 .ensures, c .before .before .before .followed2 .ensures, c .before .before .before .before .long3 .ensures, c .before .before .before .before .before .before .followed .ensures, c .before .before .before .before .before .before .before .long2 .ensures, c .before .before .before .before .before .before .before .before .before .long .ensures)
+    (refl, four-lt (a .v .now) (a .i) (a .width) (c .before .before .before .before .before .before .before .before .before .before .before .before .pre .2))
+
+pub four-from-spec : {M : Type 1} → statement M
+four-from-spec =
+    tie.close
+    (tie.spec
+    mul-long
+    shared-slice-read-long
+    long-requires
+    add-long
+    mul-long-2
+    shared-slice-read-long-2
+    long-requires-2
+    followed-requires
+    add-long-2
+    mul-long-3
+    shared-slice-read-long-3
+    long-requires-3
+    followed-requires-2
+    add-long-3
+    mul-long-4
+    shared-slice-read-long-4
+    long-requires-4
+    followed-requires-3
+    returns)

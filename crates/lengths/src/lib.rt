@@ -1,0 +1,14 @@
+// The length of a record, in bits before padding and in bytes.
+ghost use mathlib.Core.Path.{_≡_};
+ghost use Prim.Native.Nat.{_≤_};
+ghost use Rattle.rules.specs.Record.{recordLength};
+
+pub mod totals;
+
+/// The bytes of a record of n leaves.
+pub fn record_length(n: usize) -> usize
+    requires { ⌜ (1 ≤ n) × (n ≤ 1024) ⌝ }
+    ensures { λ r. ⌜ r ≡ recordLength n ⌝ }
+{
+    (totals::bits_before(n) + 7) / 8
+}

@@ -1,0 +1,59 @@
+-- `packing::pack_into` meets its contract: the count and the entries are the record (`packed`), which is copied.
+use native.Mathlib.Omega.{arith}
+use borrow.Author.Needs.{needs}
+use mathlib.Core.Path.{_∙_}
+use Rattle.record_laws.specs.Width.{record-length-most}
+use Rattle.packing.proofs.Packing.{entries-due, packed}
+use Rattle.packing.proofs.pack_into.Statement.{statement}
+use Rattle.packing.proofs.pack_into.Tie as tie
+
+slice-aggregate-put-bits : tie.Need-slice-aggregate-put-bits
+slice-aggregate-put-bits c = search needs
+
+put-bits-requires : tie.Need-put-bits-requires
+put-bits-requires c κs = search needs
+
+slice-aggregate-put-entries : tie.Need-slice-aggregate-put-entries
+slice-aggregate-put-entries c = search needs
+
+put-entries-requires : tie.Need-put-entries-requires
+put-entries-requires c κs = entries-due _ _ _ (c .before .before .put-bits .ensures) (c .before .before .before .before .before .before .pre .0) (c .before .before .before .before .before .before .pre .1) (c .before .before .put-bits .kept .0)
+
+slice-aggregate-copy-bytes : tie.Need-slice-aggregate-copy-bytes
+slice-aggregate-copy-bytes c = search needs
+
+add-copy-bytes : tie.Need-add-copy-bytes
+add-copy-bytes c = search needs
+
+cast-copy-bytes : tie.Need-cast-copy-bytes
+cast-copy-bytes c = search needs
+
+add-copy-bytes-2 : tie.Need-add-copy-bytes-2
+add-copy-bytes-2 c = omega (arith, packed _ _ _ (c .before .before .before .before .before .before .before .put-bits .ensures) _ _ (omega (arith, c .before .before .before .before .before .before .before .before .before .before .before .pre .0 .some-leaf)) (c .before .before .before .before .put-entries .ensures) .0, record-length-most _ (c .before .before .before .before .before .before .before .before .before .before .before .pre .1))
+
+copy-bytes-requires : tie.Need-copy-bytes-requires
+copy-bytes-requires c κs = let e = packed _ _ _ (c .before .before .before .before .before .before .before .before .put-bits .ensures) _ _ (omega (arith, c .before .before .before .before .before .before .before .before .before .before .before .before .pre .0 .some-leaf)) (c .before .before .before .before .before .put-entries .ensures) .0 in let m = record-length-most _ (c .before .before .before .before .before .before .before .before .before .before .before .before .pre .1) in (omega arith, omega arith)
+
+same-length : tie.Need-same-length
+same-length c = search needs
+
+returns : tie.Need-returns
+returns c =
+    let e = packed _ _ _ (c .before .before .before .before .before .before .before .before .before .before .before .put-bits .ensures) _ _ (omega (arith, c .before .before .before .before .before .before .before .before .before .before .before .before .before .before .before .pre .0 .some-leaf)) (c .before .before .before .before .before .before .before .before .put-entries .ensures) in
+    c .before .before .copy-bytes .ensures ∙ rw (e .0, e .1)
+
+pub pack-into-spec : {M : Type 1} → statement M
+pack-into-spec =
+    tie.close
+    (tie.spec
+    slice-aggregate-put-bits
+    put-bits-requires
+    slice-aggregate-put-entries
+    put-entries-requires
+    slice-aggregate-copy-bytes
+    add-copy-bytes
+    cast-copy-bytes
+    add-copy-bytes-2
+    copy-bytes-requires
+    same-length
+    returns)

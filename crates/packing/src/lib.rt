@@ -1,0 +1,38 @@
+// The record of a vector.
+ghost use mathlib.Core.Path.{_≡_};
+ghost use mathlib.Core.List.{_++_};
+ghost use Prim.Native.Nat.{_≤_};
+ghost use lib.ListN.{length, drop};
+ghost use Rattle.rules.specs.Vector.{Valid};
+ghost use Rattle.rules.specs.Record.{recordLength, recordOf};
+ghost use Rattle.entry_writer.specs.Entries.{PutEntries, Due};
+use bit_writer::Pending;
+
+// Appends the fields of the entries to the bits that are held. Room for a word behind them is wanted.
+fn put_entries(v: &[u16], out: &mut [u8], p: Pending) -> Pending
+    requires { ⌜ Due (now v) 1 (length (now v)) p (length (now out)) ⌝ }
+    ensures { λ r. ⌜ PutEntries (now (v .entry)) 1 (length (now (v .entry))) p (now (out .entry)) r (now (out .exit)) ⌝ }
+{
+    let n = v.len();
+    let first = numbers::lesser(5, n);
+    let last = runs::fours_end(first, 0, n);
+    let fours = entry_writer::put_singles(v, 1, first, out, p);
+    let rest = entry_writer::put_fours(v, first, last, out, fours);
+    entry_writer::put_singles(v, last, n, out, rest)
+}
+
+/// Writes the record of a valid vector to the front of `out`. It is built in an array of its own, since a word is stored at a time.
+pub fn pack_into(v: &[u16], out: &mut [u8])
+    requires { ⌜ Valid (now v) × (length (now v) ≤ 1024) × (recordLength (length (now v)) ≤ length (now out)) ⌝ }
+    ensures { λ _. ⌜ now (out .exit) ≡ recordOf (now (v .entry)) ++ drop (recordLength (length (now (v .entry)))) (now (out .entry)) ⌝ }
+{
+    let mut built = [0u8; 1288];
+    let none = Pending {
+        acc: 0,
+        have: 0,
+        at: 0,
+    };
+    let count = bit_writer::put_bits(&mut built, none, 11, v.len() as u64);
+    let p = put_entries(v, &mut built, count);
+    lists::copy_bytes(&built, p.at + ((p.have + 7) / 8) as usize, out);
+}

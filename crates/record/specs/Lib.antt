@@ -1,3 +1,0 @@
-pub mod Entries
-pub mod Runs
-pub mod Reading
