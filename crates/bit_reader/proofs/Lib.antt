@@ -1,1 +1,2 @@
-mod Thin
+pub mod Thin
+pub mod Position

@@ -1,2 +1,4 @@
+pub mod EntryCall
 mod EntryLoop
+mod WidthCall
 pub mod Reading

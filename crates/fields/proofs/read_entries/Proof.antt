@@ -1,5 +1,5 @@
--- `fields::read_entries` meets its contract: a walk of its MIR, by hand: the entries before the fours, the fours, and those behind them. The
--- buffer is lent again for each of the three calls and comes back (`Again`). All that the proof knows of the callees is that each meets its contract.
+-- `fields::read_entries` meets its contract: a walk of its MIR, by hand: the entries before the fours, the fours, and those behind them
+-- (`reads-entries`). All that the proof knows of the callees is that each meets its contract.
 -- Assumes nothing.
 use mathlib.Core.Path.{_≡_, refl, ap}
 use Prim.Native.Nat.{ℕ, _+_, _-_, _<_, _^_}
@@ -49,13 +49,12 @@ use Rattle.bit_reader.proofs.Reader.Laws as T′
 use Rattle.entry_reader.specs.Reading.{Left, Read}
 use Rattle.fields.specs.Parts.{Parts}
 use Rattle.runs.specs.Runs.{Fours}
-use Rattle.lending.proofs.Again.{lent, back}
+use Rattle.bit_reader.proofs.Position.{Stands, stands, Buffer, named-at, typed, bit-fits}
+use Rattle.entry_reader.proofs.EntryCall.{AskedSingles, AskedFours, Entries, reads-entries}
 use Rattle.entry_reader.proofs.Reading.{Onward, onward-start, onward-left, onward-read, onward-words, passed-read}
-use Rattle.entry_reader.proofs.read_singles as singles
 use Rattle.entry_reader.proofs.read_singles.Symbol as singles-def
 use Rattle.entry_reader.proofs.read_singles.Symbol.{name as #entry-reader·read-singles}
 use Rattle.entry_reader.proofs.read_singles.Met as singles-thm
-use Rattle.entry_reader.proofs.read_fours as fours
 use Rattle.entry_reader.proofs.read_fours.Symbol as fours-def
 use Rattle.entry_reader.proofs.read_fours.Symbol.{name as #entry-reader·read-fours}
 use Rattle.entry_reader.proofs.read_fours.Met as fours-thm
@@ -71,35 +70,20 @@ B κs = T.the-row (namedLft 2 0 tt κs)
 abbrev stayed : Stays (f.ended .signature .params) (f.ended .kept)
 stayed = (stay-none B yes, (stay-none (λ _. usize) yes, (stay-none (λ _. usize) yes, (stay-none (λ _. usize) yes, (stay-slice (1 ∷ []) tt (plain (λ _. u16)), tt)))))
 
-module _ {M : Type 1} (𝓤 : URA M) (H : Heap 𝓤) (A : Atoms 𝓤) (mem : Memory → SProp 𝓤) (run : Routine → Fun 𝓤) where
-  -- the contracts that the proof cites
-  abbrev Singles : Contract 𝓤
-  Singles = tripleOf 𝓤 H A singles.signature (singles.spec 𝓤 H A mem run)
-
-  abbrev ByFours : Contract 𝓤
-  ByFours = tripleOf 𝓤 H A fours.signature (fours.spec 𝓤 H A mem run)
-
 module _ {M : Type 1} (𝓤 : URA M) (H : Heap 𝓤) (A : Atoms 𝓤) (W : Given 𝓤 H A) (mem : Memory → SProp 𝓤) (run : Routine
     → Fun 𝓤) (κ κ₁ : Lft) (q q₁ : Share) (d : Reader) (first last n : ℕ) (b o : ℕ) (γ : GName) (ys : List ℕ) (first-fits : first < 2 ^ 64) (last-fits : last < 2 ^ 64) (n-fits : n < 2 ^ 64) where
   abbrev κs : Lfts 2
   κs = (κ, (κ₁, tt))
 
-  -- the buffer, under the name δ at the list l, and its machine value
-  abbrev x : GName → List ℕ → RefT (List ℕ)
-  x δ l = record { ptr = (b, o); name = δ; now = l }
-
+  -- the buffer's machine value
   abbrev s : Val
   s = sliceVal (b, o) (length ys)
-
-  -- the position at bit n
-  abbrev rd : ℕ → Reader
-  rd n = record { bytes = d .bytes; at = n }
 
   abbrev Args : Type 0
   Args = Reader × (ℕ × (ℕ × (ℕ × (RefT (List ℕ) × Unit {0}))))
 
   abbrev a : Args
-  a = (d, (first, (last, (n, (x γ ys, tt)))))
+  a = (d, (first, (last, (n, (named-at b o (length ys) γ ys, tt)))))
 
   abbrev vals : Vals f.signature κs
   vals = (T′.lowered d ∷ [], (vint w64 first ∷ [], (vint w64 last ∷ [], (vint w64 n ∷ [], (s ∷ [], tt)))))
@@ -107,62 +91,18 @@ module _ {M : Type 1} (𝓤 : URA M) (H : Heap 𝓤) (A : Atoms 𝓤) (W : Given
   abbrev Post : Val → SProp 𝓤
   Post = walkOf 𝓤 H A f.ended stayed (f.clauses 𝓤 H A mem run) .post ((κs, (q, (q₁, tt)), tt, a, vals), tt)
 
-  abbrev Own : Reader → Val → Fml
-  Own r v = B κs .own r (v ∷ [])
-
-  abbrev Buffer : List ℕ → Fml
-  Buffer l = MutSlice (named 1) κ₁ u16 .own (x γ l) (s ∷ [])
-
-  abbrev D : Declared
-  D = T.the-type (namedLft 2 0 tt κs)
-
-  abbrev L : LL.Laws D
-  L = T′.the-laws (namedLft 2 0 tt κs)
-
-  -- the struct's type as a local of a body has it
-  abbrev αᵉ : NamedLft
-  αᵉ = record { mir = erased; lft = κ }
-
-  -- ---- the callees take one list of parameters: the position, the entries from k to e, and the buffer
-  abbrev passed : GName → ℕ → ℕ → ℕ → List ℕ → Reader × (ℕ × (ℕ × (RefT (List ℕ) × Unit {0})))
-  passed δ m k e l = (rd m, (k, (e, (x δ l, tt))))
-
-  abbrev machine : ℕ → ℕ → ℕ → Vals singles.signature κs
-  machine m k e = (T′.lowered (rd m) ∷ [], (vint w64 k ∷ [], (vint w64 e ∷ [], (s ∷ [], tt))))
-
-  abbrev to-singles : ℕ → GName → ℕ → ℕ → ℕ → List ℕ → Singles 𝓤 H A mem run .Ghost
-  to-singles ν δ m k e l = (((κ, (ν ∷ [], tt)), (q, (fullShare, tt)), tt, passed δ m k e l, machine m k e), tt)
-
-  abbrev to-fours : ℕ → GName → ℕ → ℕ → ℕ → List ℕ → ByFours 𝓤 H A mem run .Ghost
-  to-fours ν δ m k e l = (((κ, (ν ∷ [], tt)), (q, (fullShare, tt)), tt, passed δ m k e l, machine m k e), tt)
-
-  abbrev Handed : ℕ → GName → ℕ → List ℕ → List (Item 𝓤)
-  Handed ν δ m l = (‵ (Own (rd m) (T′.lowered (rd m))) ⊛ ‵ (flft κ q)) ∷ ‵ (flft (ν ∷ []) fullShare) ∷ ‵ (MutSlice (named 1) (ν ∷ []) u16 .own (x δ l) (s ∷ [])) ∷ []
-
-  handed : (ν : ℕ) (δ : GName) (m k e : ℕ) (l : List ℕ) → k < 2 ^ 64 → e < 2 ^ 64 → ent 𝓤 (⋆ 𝓤 H A (Handed ν δ m l)) (onEntry 𝓤 H A singles.signature (κ, (ν ∷ [], tt)) (q, (fullShare, tt)) (passed δ m k e l) (machine m k e))
-  handed ν δ m k e l k-fits e-fits =
-      qed W (Handed ν δ m l) ∵ split ! $
-      nothing ! $ move ! (4 ∷ 0 ∷ []) $ fjoin ! $ owned ! usize (Is usize) (uint-makes 𝓤 H A W w64) e _ (refl, e-fits) $ fjoin ! $ owned ! usize (Is usize) (uint-makes 𝓤 H A W w64) k _ (refl, k-fits) $ fjoin ! $ move ! (1 ∷ 0 ∷ []) $ fjoin ! $
-      -- [what is passed; the position's token; the buffer's]
-      nothing ! $ move ! (3 ∷ 0 ∷ []) $ join ! $ move ! (2 ∷ 0 ∷ []) $ join ! $ frame ! $ done !
-
-  goes-singles : (ν : ℕ) (δ : GName) (m k e : ℕ) (l : List ℕ) → k < 2 ^ 64 → e < 2 ^ 64 → Left (now (d .bytes)) m k e 0 (length l) → ent 𝓤 (⋆ 𝓤 H A (Handed ν δ m l)) (Singles 𝓤 H A mem run .pre (to-singles ν δ m k e l))
-  goes-singles ν δ m k e l k-fits e-fits within = qed W (Handed ν δ m l) ∵ says ! within $ by ! (handed ν δ m k e l k-fits e-fits)
-
-  goes-fours : (ν : ℕ) (δ : GName) (m k e : ℕ) (l : List ℕ) → k < 2 ^ 64 → e < 2 ^ 64 → Left (now (d .bytes)) m k e 48 (length l) × (k < e → Fours k e) → ent 𝓤 (⋆ 𝓤 H A (Handed ν δ m l)) (ByFours 𝓤 H A mem run .pre (to-fours ν δ m k e l))
-  goes-fours ν δ m k e l k-fits e-fits within = qed W (Handed ν δ m l) ∵ says ! within $ by ! (handed ν δ m k e l k-fits e-fits)
-
   -- ---- the exit
-  exits : (m : ℕ) (l : List ℕ) → Onward (now (d .bytes)) (d .at) 1 n 0 ys m n l → ent 𝓤 (⋆ 𝓤 H A (‵ (Own (rd m) (T′.lowered (rd m))) ∷ ‵ (Buffer l) ∷ ‵ (flft κ₁ q₁) ∷ ‵ (flft κ q) ∷ ‵ (Own d (T′.lowered d)) ∷ [])) (Post (T′.lowered (rd m)))
+  exits : (m : ℕ) (l : List ℕ) → Onward (now (d .bytes)) (d .at) 1 n 0 ys m n l
+      → ent 𝓤 (⋆ 𝓤 H A (‵ (Stands κ (d .bytes) m) ∷ ‵ (Buffer b o (length ys) (named 1) κ₁ γ l) ∷ ‵ (flft κ₁ q₁) ∷ ‵ (flft κ q) ∷ ‵ (Stands κ (d .bytes) (d .at)) ∷ [])) (Post (T′.lowered (stands (d .bytes) m)))
   exits m l g =
-      qed W (‵ (Own (rd m) (T′.lowered (rd m))) ∷ ‵ (Buffer l) ∷ ‵ (flft κ₁ q₁) ∷ ‵ (flft κ q) ∷ ‵ (Own d (T′.lowered d)) ∷ []) ∵
-      suffices ! _ (ends-at 𝓤 H A f.ended stayed (f.clauses 𝓤 H A mem run) W ((κs, (q, (q₁, tt)), tt, a, vals), tt) (T′.lowered (rd m)) (rd m) (tt, (tt, (tt, (tt, (l, tt))))) (tt, (tt, (tt, (tt, (g .same, tt)))))) $
+      qed W (‵ (Stands κ (d .bytes) m) ∷ ‵ (Buffer b o (length ys) (named 1) κ₁ γ l) ∷ ‵ (flft κ₁ q₁) ∷ ‵ (flft κ q) ∷ ‵ (Stands κ (d .bytes) (d .at)) ∷ []) ∵
+      suffices ! _ (ends-at 𝓤 H A f.ended stayed (f.clauses 𝓤 H A mem run) W ((κs, (q, (q₁, tt)), tt, a, vals), tt) (T′.lowered (stands (d .bytes) m)) (stands (d .bytes) m) (tt, (tt, (tt, (tt, (l, tt))))) (tt, (tt, (tt, (tt, (g .same, tt)))))) $
       says ! (passed-read d (g .since) (g .passed)) $ nothing ! $ move ! (3 ∷ 0 ∷ []) $ join ! $ move ! (3 ∷ 0 ∷ []) $ join ! $ frame ! $
       -- [what the result owns; what the buffer owns; what the parameter owns]
       nothing ! $ move ! (2 ∷ 0 ∷ []) $ fjoin ! $ owned ! usize (Is usize) (uint-makes 𝓤 H A W w64) n _ (refl, n-fits) $ fjoin ! $ owned ! usize (Is usize) (uint-makes 𝓤 H A W w64) last _ (refl, last-fits) $ fjoin ! $
       owned ! usize (Is usize) (uint-makes 𝓤 H A W w64) first _ (refl, first-fits) $ fjoin ! $ move ! (2 ∷ 0 ∷ []) $ fjoin ! $ frame ! $ done !
 
-  module _ (C : Calls 𝓤 H) (Λ : Loops 𝓤 H) (fm : FmC 𝓤 H (W .laws) C) (known-singles : Triple 𝓤 (C #entry-reader·read-singles) (Singles 𝓤 H A mem run)) (known-fours : Triple 𝓤 (C #entry-reader·read-fours) (ByFours 𝓤 H A mem run)) where
+  module _ (C : Calls 𝓤 H) (Λ : Loops 𝓤 H) (fm : FmC 𝓤 H (W .laws) C) (known-singles : Triple 𝓤 (C #entry-reader·read-singles) (Entries AskedSingles 𝓤 H A)) (known-fours : Triple 𝓤 (C #entry-reader·read-fours) (Entries AskedFours 𝓤 H A)) where
     walk : Holds (hasTy (T′.mir (named 0)) (T′.lowered d)) × WT (T′.lowered d) → Room u16 (length ys) → Left (now (d .bytes)) (d .at) 1 n 0 (length ys) × Parts first last n
         → ent 𝓤 (onEntry 𝓤 H A f.signature κs (q, (q₁, tt)) a vals) (WpFn 𝓤 H C Λ code.function (T′.lowered d ∷ vint w64 first ∷ vint w64 last ∷ vint w64 n ∷ s ∷ []) Post)
     walk wt room due =
@@ -173,102 +113,49 @@ module _ {M : Type 1} (𝓤 : URA M) (H : Heap 𝓤) (A : Atoms 𝓤) (W : Given
         alloc1 ! (λ l₁₅. alloc1 ! (λ l₁₆. alloc0 ! $ params1 ! $
         pass1 ! (init ! 30 refl wt) $ pass1 ! (init ! 28 refl (tt, record { fits = first-fits })) $ pass1 ! (init ! 26 refl (tt, record { fits = last-fits })) $ pass1 ! (init ! 24 refl (tt, record { fits = n-fits })) $
         pass1 ! (init ! 22 refl (tt, (tt, (record { fits = room .0 }, tt)))) $ pass0 ! $
-        move ! (35 ∷ []) $ fsplit ! $ use1 W (‵ (Own d (T′.lowered d)) ⊛ ‵ (Own d (T′.lowered d))) (LL.copy D (T′.the-copy (namedLft 2 0 tt κs)) 𝓤 H A W .twice d (T′.lowered d ∷ [])) $ split ! $
+        move ! (35 ∷ []) $ fsplit ! $ use1 W (‵ (Stands κ (d .bytes) (d .at)) ⊛ ‵ (Stands κ (d .bytes) (d .at))) (LL.copy (T.the-type (record { mir = named 0; lft = κ })) (T′.the-copy (record { mir = named 0; lft = κ })) 𝓤 H A W .twice d (T′.lowered d ∷ [])) $ split ! $
         move ! (2 ∷ []) $ fsplit ! $ drop ! $ fsplit ! $ drop ! $ fsplit ! $ drop ! $ fsplit ! $ move ! (1 ∷ []) $ drop ! $ move ! (37 ∷ []) $ split ! $ move ! (1 ∷ []) $ split ! $ move ! (1 ∷ []) $ drop ! $ move ! (3 ∷ 2 ∷ 0 ∷ 1 ∷ []) $
         -- [what the position owns; what the buffer owns; the tokens; what the parameter owns; _16; …; _15; …; down to room for _0; …]
         -- the entries from 1 to first
         assigns ! (of-opd ! (load ! (from ! (stop !)) (look ! 35 refl))) (from ! (stop !)) (init ! 21 refl (tt, wt .1)) $
         assigns ! (addr ! (from ! (fld ! refl (hop ! (look-in ! 27 (sub ! 0 refl (whole !))) (stop !))))) (from ! (stop !)) (init ! 19 refl (tt, tt)) $
         assigns ! (agg ! (and-then ! (load ! (from ! (stop !)) (look ! 19 refl)) (and-then ! (load ! (from ! (fld ! refl (stop !))) (look-in ! 27 (sub ! 1 refl (whole !)))) (no-more !)))) (from ! (stop !)) (init ! 17 refl (tt, (tt, (record { fits = room .0 }, tt)))) $
-        move ! (1 ∷ 2 ∷ []) $ lent ! tt u16 (named 1) (named 1) κ₁ q₁ γ b o (length ys) ys refl (λ ν₁ δ₁. move ! (3 ∷ 4 ∷ 0 ∷ 1 ∷ []) $ join ! $
-        use3 W (raw (Singles 𝓤 H A mem run .pre (to-singles ν₁ δ₁ (d .at) 1 first ys))) (goes-singles ν₁ δ₁ (d .at) 1 first ys (lit< tt) first-fits (onward-left begun first (parts .some-first) (omega (arith, parts .ordered, parts .most)))) $
-        calls-at ! fm (Singles 𝓤 H A mem run) known-singles (to-singles ν₁ δ₁ (d .at) 1 first ys) (and-then ! (load ! (from ! (stop !)) (look ! 19 refl)) (and-then ! (lit ! tt) (and-then ! (load ! (from ! (stop !)) (look ! 31 refl))
-        (and-then ! (load ! (from ! (stop !)) (look ! 15 refl)) (no-more !))))) (λ u₁.
-        use1 W (later (some (λ (r : Reader). ((‵ (flft κ q) ⊛ ‵ (flft (ν₁ ∷ []) fullShare) ⊛ ‵ ftrue) ⊛ ‵ (Own r u₁)) ⊛ raw (ensured 𝓤 H A singles.ended (singles.clauses 𝓤 H A mem run) (κ, (ν₁ ∷ [], tt)) (passed δ₁ (d .at) 1 first ys) tt r)))) (id⊢ 𝓤 _) $
-        await ! tt $ pick ! (λ r₁.
-        split ! $ move ! (1 ∷ []) $
-        use1 W (some (λ (zs : Unit {0} × (Unit {0} × (Unit {0} × (List ℕ × Unit {0})))). ‵ (lasts singles.ended (κ, (ν₁ ∷ [], tt)) (passed δ₁ (d .at) 1 first ys) zs) ⊛ raw (fact 𝓤 (Read (rd (d .at)) 1 first ys r₁ (zs .1 .1 .1 .0))))) (id⊢ 𝓤 _) $ pick ! (λ zs₁.
-        split ! $ move ! (1 ∷ []) $ heard ! (Read (rd (d .at)) 1 first ys r₁ (zs₁ .1 .1 .1 .0)) (λ e₁. fsplit ! $ drop ! $ fsplit ! $ drop ! $ fsplit ! $ drop ! $ fsplit ! $ move ! (1 ∷ []) $ drop ! $ fsplit ! $ move ! (1 ∷ []) $ feqL ! (λ same₁.
-        move ! (1 ∷ []) $ split ! $ split ! $ move ! (1 ∷ []) $ split ! $ move ! (1 ∷ []) $ drop ! $ move ! (0 ∷ 4 ∷ 3 ∷ []) $ back ! tt u16 (named 1) κ₁ q₁ γ b o (length ys) room ys refl ν₁ δ₁ (zs₁ .1 .1 .1 .0) same₁ $ move ! (3 ∷ []) $
-        rewrite ! 0 (λ (p : Reader). ‵ (Own p u₁)) (e₁ .moved) refl $
-        let m₁ : ℕ = (d .at) + (total first - total 1) in
-        let on-first = onward-read (d .bytes) begun first r₁ (zs₁ .1 .1 .1 .0) (parts .some-first) (omega (arith, parts .ordered, parts .most)) same₁ e₁ in
-        peeks ! (B κs) (Is (B κs)) (shows 𝓤 H A (B κs)) (rd m₁) (u₁ ∷ []) (λ is₁.
-        let spelt : u₁ ≡ T′.lowered (rd m₁) = ap only (LL.tells D L (rd m₁) _ is₁) in
-        land ! (from ! (stop !)) (init ! 25 refl (LL.lawful (T.the-type αᵉ) (T′.the-laws αᵉ) 𝓤 H A W .typed (rd m₁) _ is₁ .0)) $ rewrite ! 25 (λ (v : Val). ‵ (fat fullShare (T′.mir erased) l₆ 0 v)) spelt refl $ rewrite ! 0 (λ (v : Val). ‵ (Own (rd m₁) v)) spelt refl $
+        reads-entries AskedSingles ! fm known-singles κ κ₁ q q₁ (named 1) γ b o (length ys) room (d .bytes) (d .at) 1 first ys refl (lit< tt) first-fits (onward-left begun first (parts .some-first) (omega (arith, parts .ordered, parts .most)))
+        (λ ν δ. and-then ! (load ! (from ! (stop !)) (look ! 19 refl)) (and-then ! (lit ! tt) (and-then ! (load ! (from ! (stop !)) (look ! 31 refl)) (and-then ! (load ! (from ! (stop !)) (look ! 15 refl)) (no-more !)))))
+        (λ zs₁ e₁ same₁ is₁.
+        let m₁ : ℕ = d .at + (total first - total 1) in
+        let on-first = onward-read (d .bytes) begun first (stands (d .bytes) m₁) zs₁ (parts .some-first) (omega (arith, parts .ordered, parts .most)) same₁ e₁ in
+        land ! (from ! (stop !)) (init ! 25 refl (typed κ (d .bytes) m₁ is₁ 𝓤 H A W erased)) $
         -- the entries from first to last
-        assigns ! (of-opd ! (load ! (from ! (stop !)) (look ! 25 refl))) (from ! (stop !)) (init ! 15 refl (tt, (wt .1 .0, (record { fits = LL.owed D L (rd m₁) _ is₁ .1 .0 .1 }, tt)))) $
+        assigns ! (of-opd ! (load ! (from ! (stop !)) (look ! 25 refl))) (from ! (stop !)) (init ! 15 refl (tt, (wt .1 .0, (record { fits = bit-fits κ (d .bytes) m₁ is₁ }, tt)))) $
         assigns ! (addr ! (from ! (fld ! refl (hop ! (look-in ! 27 (sub ! 0 refl (whole !))) (stop !))))) (from ! (stop !)) (init ! 13 refl (tt, tt)) $
         assigns ! (agg ! (and-then ! (load ! (from ! (stop !)) (look ! 13 refl)) (and-then ! (load ! (from ! (fld ! refl (stop !))) (look-in ! 27 (sub ! 1 refl (whole !)))) (no-more !)))) (from ! (stop !)) (init ! 11 refl (tt, (tt, (record { fits = room .0 }, tt)))) $
-        move ! (1 ∷ 2 ∷ []) $ lent ! tt u16 (named 1) (named 1) κ₁ q₁ γ b o (length ys) (zs₁ .1 .1 .1 .0) (on-first .same) (λ ν₂ δ₂. move ! (3 ∷ 4 ∷ 0 ∷ 1 ∷ []) $ join ! $
-        use3 W (raw (ByFours 𝓤 H A mem run .pre (to-fours ν₂ δ₂ m₁ first last (zs₁ .1 .1 .1 .0)))) (goes-fours ν₂ δ₂ m₁ first last (zs₁ .1 .1 .1 .0) first-fits last-fits (
-          onward-words last on-first (parts .ordered) (parts .most) (λ h.
-              (parts .fours h .0 .from, parts .fours h .1)),
-          λ h. parts .fours h .0,
-        )) $
-        calls-at ! fm (ByFours 𝓤 H A mem run) known-fours (to-fours ν₂ δ₂ m₁ first last (zs₁ .1 .1 .1 .0)) (and-then ! (load ! (from ! (stop !)) (look ! 13 refl)) (and-then ! (load ! (from ! (stop !)) (look ! 31 refl)) (and-then ! (load ! (from ! (stop !))
-        (look ! 29 refl)) (and-then ! (load ! (from ! (stop !)) (look ! 9 refl)) (no-more !))))) (λ u₂.
-        use1 W (later (some (λ (r : Reader). ((‵ (flft κ q) ⊛ ‵ (flft (ν₂ ∷ []) fullShare) ⊛ ‵ ftrue) ⊛ ‵ (Own r u₂)) ⊛ raw (ensured 𝓤 H A fours.ended (fours.clauses 𝓤 H A mem run) (
-          κ,
-          (
-            ν₂
-                ∷ [],
-            tt,
-          ),
-        ) (passed δ₂ m₁ first last (zs₁ .1 .1 .1 .0)) tt r)))) (id⊢ 𝓤 _) $ await ! tt $ pick ! (λ r₂.
-        split ! $ move ! (1 ∷ []) $
-        use1 W (some (λ (zs : Unit {0} × (Unit {0} × (Unit {0} × (List ℕ × Unit {0})))). ‵ (lasts fours.ended (
-          κ,
-          (
-            ν₂
-                ∷ [],
-            tt,
-          ),
-        ) (passed δ₂ m₁ first last (zs₁ .1 .1 .1 .0)) zs) ⊛ raw (fact 𝓤 (Read (rd m₁) first last (zs₁ .1 .1 .1 .0) r₂ (zs .1 .1 .1 .0))))) (id⊢ 𝓤 _) $ pick ! (λ zs₂.
-        split ! $ move ! (1 ∷ []) $ heard ! (Read (rd m₁) first last (zs₁ .1 .1 .1 .0) r₂ (zs₂ .1 .1 .1 .0)) (λ e₂. fsplit ! $ drop ! $ fsplit ! $ drop ! $ fsplit ! $ drop ! $ fsplit ! $ move ! (1 ∷ []) $ drop ! $ fsplit ! $ move ! (1 ∷ []) $ feqL ! (λ same₂.
-        move ! (1 ∷ []) $ split ! $ split ! $ move ! (1 ∷ []) $ split ! $ move ! (1 ∷ []) $ drop ! $ move ! (0 ∷ 4 ∷ 3 ∷ []) $ back ! tt u16 (named 1) κ₁ q₁ γ b o (length ys) room (zs₁ .1 .1 .1 .0) (on-first .same) ν₂ δ₂ (zs₂ .1 .1 .1 .0) same₂ $ move ! (3 ∷ []) $
-        rewrite ! 0 (λ (p : Reader). ‵ (Own p u₂)) (e₂ .moved) refl $
+        reads-entries AskedFours ! fm known-fours κ κ₁ q q₁ (named 1) γ b o (length ys) room (d .bytes) m₁ first last zs₁ (on-first .same) first-fits last-fits (onward-words last on-first (parts .ordered) (parts .most) (λ h. (parts .fours h .0 .from, parts .fours h .1)), λ h. parts .fours h .0)
+        (λ ν δ. and-then ! (load ! (from ! (stop !)) (look ! 13 refl)) (and-then ! (load ! (from ! (stop !)) (look ! 31 refl)) (and-then ! (load ! (from ! (stop !)) (look ! 29 refl)) (and-then ! (load ! (from ! (stop !)) (look ! 9 refl)) (no-more !)))))
+        (λ zs₂ e₂ same₂ is₂.
         let m₂ : ℕ = m₁ + (total last - total first) in
-        let on-last = onward-read (d .bytes) on-first last r₂ (zs₂ .1 .1 .1 .0) (parts .ordered) (parts .most) same₂ e₂ in
-        peeks ! (B κs) (Is (B κs)) (shows 𝓤 H A (B κs)) (rd m₂) (u₂ ∷ []) (λ is₂.
-        let spelt : u₂ ≡ T′.lowered (rd m₂) = ap only (LL.tells D L (rd m₂) _ is₂) in
-        land ! (from ! (stop !)) (init ! 23 refl (LL.lawful (T.the-type αᵉ) (T′.the-laws αᵉ) 𝓤 H A W .typed (rd m₂) _ is₂ .0)) $ rewrite ! 23 (λ (v : Val). ‵ (fat fullShare (T′.mir erased) l₇ 0 v)) spelt refl $ rewrite ! 0 (λ (v : Val). ‵ (Own (rd m₂) v)) spelt refl $
+        let on-last = onward-read (d .bytes) on-first last (stands (d .bytes) m₂) zs₂ (parts .ordered) (parts .most) same₂ e₂ in
+        land ! (from ! (stop !)) (init ! 23 refl (typed κ (d .bytes) m₂ is₂ 𝓤 H A W erased)) $
         -- the entries from last to n
-        assigns ! (of-opd ! (load ! (from ! (stop !)) (look ! 23 refl))) (from ! (stop !)) (init ! 9 refl (tt, (wt .1 .0, (record { fits = LL.owed D L (rd m₂) _ is₂ .1 .0 .1 }, tt)))) $
+        assigns ! (of-opd ! (load ! (from ! (stop !)) (look ! 23 refl))) (from ! (stop !)) (init ! 9 refl (tt, (wt .1 .0, (record { fits = bit-fits κ (d .bytes) m₂ is₂ }, tt)))) $
         assigns ! (addr ! (from ! (fld ! refl (hop ! (look-in ! 27 (sub ! 0 refl (whole !))) (stop !))))) (from ! (stop !)) (init ! 7 refl (tt, tt)) $
         assigns ! (agg ! (and-then ! (load ! (from ! (stop !)) (look ! 7 refl)) (and-then ! (load ! (from ! (fld ! refl (stop !))) (look-in ! 27 (sub ! 1 refl (whole !)))) (no-more !)))) (from ! (stop !)) (init ! 5 refl (tt, (tt, (record { fits = room .0 }, tt)))) $
-        move ! (1 ∷ 2 ∷ []) $ lent ! tt u16 (named 1) (named 1) κ₁ q₁ γ b o (length ys) (zs₂ .1 .1 .1 .0) (on-last .same) (λ ν₃ δ₃. move ! (3 ∷ 4 ∷ 0 ∷ 1 ∷ []) $ join ! $
-        use3 W (raw (Singles 𝓤 H A mem run .pre (to-singles ν₃ δ₃ m₂ last n (zs₂ .1 .1 .1 .0)))) (goes-singles ν₃ δ₃ m₂ last n (zs₂ .1 .1 .1 .0) last-fits n-fits (onward-left on-last n (parts .most) (omega arith))) $
-        calls-at ! fm (Singles 𝓤 H A mem run) known-singles (to-singles ν₃ δ₃ m₂ last n (zs₂ .1 .1 .1 .0)) (and-then ! (load ! (from ! (stop !)) (look ! 7 refl)) (and-then ! (load ! (from ! (stop !)) (look ! 29 refl)) (and-then ! (load ! (from ! (stop !))
-        (look ! 27 refl)) (and-then ! (load ! (from ! (stop !)) (look ! 3 refl)) (no-more !))))) (λ u₃.
-        use1 W (later (some (λ (r : Reader). ((‵ (flft κ q) ⊛ ‵ (flft (ν₃ ∷ []) fullShare) ⊛ ‵ ftrue) ⊛ ‵ (Own r u₃)) ⊛ raw (ensured 𝓤 H A singles.ended (singles.clauses 𝓤 H A mem run) (
-          κ,
-          (
-            ν₃
-                ∷ [],
-            tt,
-          ),
-        ) (passed δ₃ m₂ last n (zs₂ .1 .1 .1 .0)) tt r)))) (id⊢ 𝓤 _) $ await ! tt $ pick ! (λ r₃.
-        split ! $ move ! (1 ∷ []) $
-        use1 W (some (λ (zs : Unit {0} × (Unit {0} × (Unit {0} × (List ℕ × Unit {0})))). ‵ (lasts singles.ended (κ, (ν₃ ∷ [], tt)) (passed δ₃ m₂ last n (zs₂ .1 .1 .1 .0)) zs) ⊛ raw (fact 𝓤 (Read (rd m₂) last n (zs₂ .1 .1 .1 .0) r₃ (zs .1 .1 .1 .0))))) (id⊢ 𝓤 _) $ pick ! (λ zs₃.
-        split ! $ move ! (1 ∷ []) $ heard ! (Read (rd m₂) last n (zs₂ .1 .1 .1 .0) r₃ (zs₃ .1 .1 .1 .0)) (λ e₃. fsplit ! $ drop ! $ fsplit ! $ drop ! $ fsplit ! $ drop ! $ fsplit ! $ move ! (1 ∷ []) $ drop ! $ fsplit ! $ move ! (1 ∷ []) $ feqL ! (λ same₃.
-        move ! (1 ∷ []) $ split ! $ split ! $ move ! (1 ∷ []) $ split ! $ move ! (1 ∷ []) $ drop ! $ move ! (0 ∷ 4 ∷ 3 ∷ []) $ back ! tt u16 (named 1) κ₁ q₁ γ b o (length ys) room (zs₂ .1 .1 .1 .0) (on-last .same) ν₃ δ₃ (zs₃ .1 .1 .1 .0) same₃ $ move ! (3 ∷ []) $
-        rewrite ! 0 (λ (p : Reader). ‵ (Own p u₃)) (e₃ .moved) refl $
+        reads-entries AskedSingles ! fm known-singles κ κ₁ q q₁ (named 1) γ b o (length ys) room (d .bytes) m₂ last n zs₂ (on-last .same) last-fits n-fits (onward-left on-last n (parts .most) (omega arith))
+        (λ ν δ. and-then ! (load ! (from ! (stop !)) (look ! 7 refl)) (and-then ! (load ! (from ! (stop !)) (look ! 29 refl)) (and-then ! (load ! (from ! (stop !)) (look ! 27 refl)) (and-then ! (load ! (from ! (stop !)) (look ! 3 refl)) (no-more !)))))
+        (λ zs₃ e₃ same₃ is₃.
         let m₃ : ℕ = m₂ + (total n - total last) in
-        let on-end = onward-read (d .bytes) on-last n r₃ (zs₃ .1 .1 .1 .0) (parts .most) (omega arith) same₃ e₃ in
-        peeks ! (B κs) (Is (B κs)) (shows 𝓤 H A (B κs)) (rd m₃) (u₃ ∷ []) (λ is₃.
-        let spelt : u₃ ≡ T′.lowered (rd m₃) = ap only (LL.tells D L (rd m₃) _ is₃) in
-        land ! (from ! (stop !)) (init ! 37 refl (LL.lawful D L 𝓤 H A W .typed (rd m₃) _ is₃ .0)) $ rewrite ! 37 (λ (v : Val). ‵ (fat fullShare (T′.mir (named 0)) l₀ 0 v)) spelt refl $ rewrite ! 0 (λ (v : Val). ‵ (Own (rd m₃) v)) spelt refl $
+        let on-end = onward-read (d .bytes) on-last n (stands (d .bytes) m₃) zs₃ (parts .most) (omega arith) same₃ e₃ in
+        land ! (from ! (stop !)) (init ! 37 refl (typed κ (d .bytes) m₃ is₃ 𝓤 H A W (named 0))) $
         returns ! (look ! 37 refl) $ forget ! 5 refl $ forget ! 7 refl $ forget ! 9 refl $ forget ! 11 refl $ forget ! 13 refl $ forget ! 15 refl $ forget ! 17 refl $ forget ! 19 refl $ forget ! 21 refl $ forget ! 23 refl $ forget ! 25 refl $
         forget ! 27 refl $ forget ! 29 refl $ forget ! 31 refl $ forget ! 33 refl $ forget ! 35 refl $ forget ! 37 refl $
         move ! (37 ∷ 38 ∷ []) $ free1 ! $ move ! (35 ∷ 36 ∷ []) $ free1 ! $ move ! (33 ∷ 34 ∷ []) $ free1 ! $ move ! (31 ∷ 32 ∷ []) $ free1 ! $ move ! (29 ∷ 30 ∷ []) $ free1 ! $ move ! (27 ∷ 28 ∷ []) $ free1 ! $ move ! (25 ∷ 26 ∷ []) $ free1 ! $
         move ! (23 ∷ 24 ∷ []) $ free1 ! $ move ! (21 ∷ 22 ∷ []) $ free1 ! $
         move ! (19 ∷ 20 ∷ []) $ free1 ! $ move ! (17 ∷ 18 ∷ []) $ free1 ! $ move ! (15 ∷ 16 ∷ []) $ free1 ! $ move ! (13 ∷ 14 ∷ []) $ free1 ! $ move ! (11 ∷ 12 ∷ []) $ free1 ! $ move ! (9 ∷ 10 ∷ []) $ free1 ! $ move ! (7 ∷ 8 ∷ []) $ free1 ! $
         move ! (5 ∷ 6 ∷ []) $ free1 ! $ free0 ! $
-        by ! (exits m₃ (zs₃ .1 .1 .1 .0) on-end)))))))))))))))))))))))))))))))))))))))
+        by ! (exits m₃ zs₃ on-end)))))))))))))))))))))
 
 module _ {M : Type 1} (𝓤 : URA M) (H : Heap 𝓤) (A : Atoms 𝓤) (W : Given 𝓤 H A) (mem : Memory → SProp 𝓤) (run : Routine → Fun 𝓤) where
-  entries-walk : (C : Calls 𝓤 H) (Λ : Loops 𝓤 H) → FmC 𝓤 H (W .laws) C → Triple 𝓤 (C #entry-reader·read-singles) (Singles 𝓤 H A mem run) → Triple 𝓤 (C #entry-reader·read-fours) (ByFours 𝓤 H A mem run)
+  entries-walk : (C : Calls 𝓤 H) (Λ : Loops 𝓤 H) → FmC 𝓤 H (W .laws) C → Triple 𝓤 (C #entry-reader·read-singles) (Entries AskedSingles 𝓤 H A) → Triple 𝓤 (C #entry-reader·read-fours) (Entries AskedFours 𝓤 H A)
       → Walks 𝓤 H A f.ended stayed (WpFn 𝓤 H C Λ code.function) (f.clauses 𝓤 H A mem run)
   entries-walk C Λ fm known-singles known-fours = walked 𝓤 H A f.ended stayed (f.clauses 𝓤 H A mem run) (WpFn 𝓤 H C Λ code.function)
       (λ κs. (LL.vals (T.the-type (namedLft 2 0 tt κs)) (T′.the-laws (namedLft 2 0 tt κs)), (uint-vals w64, (uint-vals w64, (uint-vals w64, (slice-vals, tt))))))
@@ -278,7 +165,7 @@ module _ {M : Type 1} (𝓤 : URA M) (H : Heap 𝓤) (A : Atoms 𝓤) (W : Given
       C Λ fm known-singles known-fours (LL.lawful (T.the-type (namedLft 2 0 tt κs)) (T′.the-laws (namedLft 2 0 tt κs)) 𝓤 H A W .typed (a .0) _ (are .0) .0) (are .1 .1 .1 .1 .0 .0 .1)))
 
 entries-meet : {M : Type 1} (𝓤 : URA M) (H : Heap 𝓤) (A : Atoms 𝓤) (W : Given 𝓤 H A) (mem : Memory → SProp 𝓤) (run : Routine → Fun 𝓤) (𝓣 : Tables 𝓤 H)
-    → Triple 𝓤 (𝓣 .C #entry-reader·read-singles) (Singles 𝓤 H A mem run) → Triple 𝓤 (𝓣 .C #entry-reader·read-fours) (ByFours 𝓤 H A mem run)
+    → Triple 𝓤 (𝓣 .C #entry-reader·read-singles) (Entries AskedSingles 𝓤 H A) → Triple 𝓤 (𝓣 .C #entry-reader·read-fours) (Entries AskedFours 𝓤 H A)
     → Meets 𝓤 H A f.signature (WpFn 𝓤 H (𝓣 .C) (𝓣 .Λ) code.function) (f.spec 𝓤 H A mem run)
 entries-meet 𝓤 H A W mem run 𝓣 known-singles known-fours =
     walk-meets 𝓤 H A f.ended stayed W (
@@ -303,5 +190,5 @@ read-entries-spec 𝓤 H 𝓜 𝓖 𝓡 =
     entered 𝓤 H (tripleOf 𝓤 H (𝓖 .A) f.signature (f.spec 𝓤 H (𝓖 .A) (𝓜 .mem) (𝓡 .run)))
     (tables 𝓤 H 𝓜 𝓡 code.env .C) (tables 𝓤 H 𝓜 𝓡 code.env .Λ) #fields·read-entries code.function (code.unfolded 𝓤 H 𝓜 𝓡)
     (entries-meet 𝓤 H (𝓖 .A) (givenOf 𝓤 H 𝓜 𝓖) (𝓜 .mem) (𝓡 .run) (tablesOf 𝓤 H 𝓜 (tables 𝓤 H 𝓜 𝓡 code.env))
-    (cited 𝓤 H (Singles 𝓤 H (𝓖 .A) (𝓜 .mem) (𝓡 .run)) 𝓜 𝓡 code.env #entry-reader·read-singles singles-def.routine code.calls-entry-reader·read-singles (singles-thm.met 𝓤 H 𝓜 𝓖 𝓡))
-    (cited 𝓤 H (ByFours 𝓤 H (𝓖 .A) (𝓜 .mem) (𝓡 .run)) 𝓜 𝓡 code.env #entry-reader·read-fours fours-def.routine code.calls-entry-reader·read-fours (fours-thm.met 𝓤 H 𝓜 𝓖 𝓡)))
+    (cited 𝓤 H (Entries AskedSingles 𝓤 H (𝓖 .A)) 𝓜 𝓡 code.env #entry-reader·read-singles singles-def.routine code.calls-entry-reader·read-singles (singles-thm.met 𝓤 H 𝓜 𝓖 𝓡))
+    (cited 𝓤 H (Entries AskedFours 𝓤 H (𝓖 .A)) 𝓜 𝓡 code.env #entry-reader·read-fours fours-def.routine code.calls-entry-reader·read-fours (fours-thm.met 𝓤 H 𝓜 𝓖 𝓡)))
