@@ -1,2 +1,4 @@
-pub mod Thin
+mod Thin
 pub mod Position
+pub mod NextCall
+pub mod Start

@@ -66,9 +66,9 @@ module _ (Asked : List ℕ → ℕ → ℕ → ℕ → ℕ → Type 0) where
       abbrev pub to-entries : ℕ → GName → Entries .Ghost
       to-entries ν δ = (((κ, (ν ∷ [], tt)), (q, (fullShare, tt)), tt, passed δ, (T′.lowered (stands bytes n) ∷ [], (vint w64 k ∷ [], (vint w64 e ∷ [], (sliceVal (b, o) m ∷ [], tt))))), tt)
 
-      goes-entries : Given 𝓤 H A → k < 2 ^ 64 → e < 2 ^ 64 → Asked (now bytes) n k e (length l) → (ν : ℕ) (δ : GName) → ent 𝓤 (⋆ 𝓤 H A (Handed b o m 𝓤 κ q bytes n ν δ l)) (Entries .pre (to-entries ν δ))
+      goes-entries : Given 𝓤 H A → k < 2 ^ 64 → e < 2 ^ 64 → Asked (now bytes) n k e (length l) → (ν : ℕ) (δ : GName) → ent 𝓤 (⋆ 𝓤 H A (Handed b o m 𝓤 κ q bytes n (ν ∷ []) fullShare δ l)) (Entries .pre (to-entries ν δ))
       goes-entries W k-fits e-fits asked ν δ =
-          qed W (Handed b o m 𝓤 κ q bytes n ν δ l) ∵ says ! asked $ split ! $
+          qed W (Handed b o m 𝓤 κ q bytes n (ν ∷ []) fullShare δ l) ∵ says ! asked $ split ! $
           nothing ! $ move ! (4 ∷ 0 ∷ []) $ fjoin ! $ owned ! usize (Is usize) (uint-makes 𝓤 H A W w64) e _ (refl, e-fits) $ fjoin ! $ owned ! usize (Is usize) (uint-makes 𝓤 H A W w64) k _ (refl, k-fits) $ fjoin ! $ move ! (1 ∷ 0 ∷ []) $ fjoin ! $
           -- [what is passed; the position's token; the buffer's]
           nothing ! $ move ! (3 ∷ 0 ∷ []) $ join ! $ move ! (2 ∷ 0 ∷ []) $ join ! $ frame ! $ done !

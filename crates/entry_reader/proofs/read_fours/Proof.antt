@@ -34,7 +34,6 @@ use denote.Builtin.{u16, usize}
 use denote.Ref.{now}
 use denote.Slice.{sliceTy, sliceVal, MutSlice, Room}
 use denote.Steps.{only, owned, peeks, heard, nothing}
-use denote.Struct.Laws as LL
 use denote.Triple.Statement.{Contract, Triple}
 use denote.Triple.Call.{calls-at}
 use denote.Triple.Entry.{onEntry}
@@ -44,9 +43,8 @@ use denote.Triple.Walked.{says}
 use denote.Triple.Clauses.{ensured, lasts}
 use Rattle.rules.specs.Record.{total}
 use Rattle.bit_reader.specs.declared.Reader.{Reader}
-use Rattle.bit_reader.proofs.Reader as T
 use Rattle.bit_reader.proofs.Reader.Laws as T′
-use Rattle.bit_reader.proofs.Position.{Position, Stands, stands, Buffer, typed, bit-fits}
+use Rattle.bit_reader.proofs.Position.{Position, Stands, stands, Buffer, typed, bit-fits, stands-twice}
 use Rattle.runs.specs.Runs.{Fours, Run}
 use Rattle.runs.proofs.Runs.{fours-on}
 use Rattle.runs.proofs.run_end as till
@@ -189,7 +187,7 @@ module _ {M : Type 1} (𝓤 : URA M) (H : Heap 𝓤) (A : Atoms 𝓤) (W : Given
       pass1 ! (init ! 20 refl wt) $ pass1 ! (init ! 18 refl (tt, record { fits = i-fits })) $ pass1 ! (init ! 16 refl (tt, record { fits = end-fits })) $ pass1 ! (init ! 14 refl (tt, (tt, (record { fits = room .0 }, tt)))) $ pass0 ! $
       assigns ! (of-opd ! (load ! (from ! (stop !)) (look ! 20 refl))) (from ! (stop !)) (init ! 12 refl (tt, wt .1)) $
       assigns ! (of-opd ! (load ! (from ! (stop !)) (look ! 18 refl))) (from ! (stop !)) (init ! 10 refl (tt, record { fits = i-fits })) $
-      move ! (25 ∷ []) $ fsplit ! $ use1 W (‵ (Stands κ (d .bytes) (d .at)) ⊛ ‵ (Stands κ (d .bytes) (d .at))) (LL.copy (T.the-type (record { mir = named 0; lft = κ })) (T′.the-copy (record { mir = named 0; lft = κ })) 𝓤 H A W .twice d (T′.lowered d ∷ [])) $ split ! $
+      move ! (25 ∷ []) $ fsplit ! $ use1 W (‵ (Stands κ (d .bytes) (d .at)) ⊛ ‵ (Stands κ (d .bytes) (d .at))) (stands-twice 𝓤 H A W κ (d .bytes) (d .at)) $ split ! $
       move ! (2 ∷ []) $ fsplit ! $ drop ! $ fsplit ! $ drop ! $ fsplit ! $ move ! (1 ∷ []) $ drop ! $ move ! (27 ∷ []) $ split ! $ move ! (1 ∷ []) $ split ! $ move ! (1 ∷ []) $ drop ! $
       -- [the tokens; what the buffer owns; what the struct owns, twice; _11; …; _10; …; down to room for _0; …]
       keep ! (3 ∷ 2 ∷ 0 ∷ 1 ∷ 5 ∷ 7 ∷ 9 ∷ 11 ∷ 13 ∷ 15 ∷ 17 ∷ 19 ∷ 21 ∷ 23 ∷ 25 ∷ 27 ∷ 6 ∷ 8 ∷ 10 ∷ 12 ∷ 14 ∷ 16 ∷ 18 ∷ 20 ∷ 22 ∷ 24 ∷ 26 ∷ 28 ∷ 4 ∷ []) $ first ! $ blocks ! $

@@ -49,7 +49,7 @@ use Rattle.bit_reader.proofs.Reader.Laws as T′
 use Rattle.entry_reader.specs.Reading.{Left, Read}
 use Rattle.fields.specs.Parts.{Parts}
 use Rattle.runs.specs.Runs.{Fours}
-use Rattle.bit_reader.proofs.Position.{Stands, stands, Buffer, named-at, typed, bit-fits}
+use Rattle.bit_reader.proofs.Position.{Stands, stands, Buffer, named-at, typed, bit-fits, stands-twice}
 use Rattle.entry_reader.proofs.EntryCall.{AskedSingles, AskedFours, Entries, reads-entries}
 use Rattle.entry_reader.proofs.Reading.{Onward, onward-start, onward-left, onward-read, onward-words, passed-read}
 use Rattle.entry_reader.proofs.read_singles.Symbol as singles-def
@@ -113,7 +113,7 @@ module _ {M : Type 1} (𝓤 : URA M) (H : Heap 𝓤) (A : Atoms 𝓤) (W : Given
         alloc1 ! (λ l₁₅. alloc1 ! (λ l₁₆. alloc0 ! $ params1 ! $
         pass1 ! (init ! 30 refl wt) $ pass1 ! (init ! 28 refl (tt, record { fits = first-fits })) $ pass1 ! (init ! 26 refl (tt, record { fits = last-fits })) $ pass1 ! (init ! 24 refl (tt, record { fits = n-fits })) $
         pass1 ! (init ! 22 refl (tt, (tt, (record { fits = room .0 }, tt)))) $ pass0 ! $
-        move ! (35 ∷ []) $ fsplit ! $ use1 W (‵ (Stands κ (d .bytes) (d .at)) ⊛ ‵ (Stands κ (d .bytes) (d .at))) (LL.copy (T.the-type (record { mir = named 0; lft = κ })) (T′.the-copy (record { mir = named 0; lft = κ })) 𝓤 H A W .twice d (T′.lowered d ∷ [])) $ split ! $
+        move ! (35 ∷ []) $ fsplit ! $ use1 W (‵ (Stands κ (d .bytes) (d .at)) ⊛ ‵ (Stands κ (d .bytes) (d .at))) (stands-twice 𝓤 H A W κ (d .bytes) (d .at)) $ split ! $
         move ! (2 ∷ []) $ fsplit ! $ drop ! $ fsplit ! $ drop ! $ fsplit ! $ drop ! $ fsplit ! $ move ! (1 ∷ []) $ drop ! $ move ! (37 ∷ []) $ split ! $ move ! (1 ∷ []) $ split ! $ move ! (1 ∷ []) $ drop ! $ move ! (3 ∷ 2 ∷ 0 ∷ 1 ∷ []) $
         -- [what the position owns; what the buffer owns; the tokens; what the parameter owns; _16; …; _15; …; down to room for _0; …]
         -- the entries from 1 to first

@@ -1,6 +1,6 @@
--- `fields::read_fields` meets its contract: a walk of its MIR, by hand. One reading position is made, and moves on over the count, the entries and
--- the padding. The place for the other two fields is lent again for the count and comes back (`Again`); at their last use both buffers are given
--- up for good. All that the proof knows of the callees is that each meets its contract.
+-- `fields::read_fields` meets its contract: a walk of its MIR, by hand. One reading position is made (`starts`), and moves on over the count
+-- (`reads-next`), the entries and the padding (`reads-last`). At their last use both buffers are given up for good. All that the proof knows of
+-- the callees is that each meets its contract.
 -- Assumes nothing.
 use mathlib.Core.Path.{_≡_, refl, ap, _∙_}
 use Prim.Native.Nat.{ℕ, _+_, _-_, _≤_, _<_, _^_}
@@ -50,17 +50,17 @@ use Rattle.bit_reader.specs.Moving.{atStart, movedOn}
 use Rattle.bit_reader.specs.declared.Reader.{Reader}
 use Rattle.bit_reader.proofs.Reader as T
 use Rattle.bit_reader.proofs.Reader.Laws as T′
-use Rattle.bit_reader.proofs.reading as new
 use Rattle.bit_reader.proofs.reading.Symbol as new-def
 use Rattle.bit_reader.proofs.reading.Symbol.{name as #bit-reader·reading}
 use Rattle.bit_reader.proofs.reading.Met as new-thm
-use Rattle.bit_reader.proofs.next_field as next
 use Rattle.bit_reader.proofs.next_field.Symbol as next-def
 use Rattle.bit_reader.proofs.next_field.Symbol.{name as #bit-reader·next-field}
 use Rattle.bit_reader.proofs.next_field.Met as next-thm
 use Rattle.entry_reader.specs.Reading.{Left, Read, Reading}
 use Rattle.fields.specs.Parts.{Parts}
-use Rattle.lending.proofs.Again.{lent, back}
+use Rattle.bit_reader.proofs.Position.{Own, Stands, stands, named-at, typed, bit-fits, spells}
+use Rattle.bit_reader.proofs.NextCall.{Next, reads-next, reads-last}
+use Rattle.bit_reader.proofs.Start.{bytes-value, Bytes, New, starts}
 use Rattle.fields.proofs.Padding.{count-inside, padding-behind, all-read}
 use Rattle.fields.proofs.read_entries as entries
 use Rattle.fields.proofs.read_entries.Symbol as entries-def
@@ -71,21 +71,15 @@ use Rattle.fields.proofs.read_fields as f
 use Rattle.fields.proofs.read_fields.Statement as stated
 use Rattle.fields.proofs.read_fields.Code as code
 
--- the struct's type, over the signature's lifetimes
-abbrev B : Lfts 3 → RattleType
-B κs = T.the-row (namedLft 3 0 tt κs)
-
 abbrev stayed : Stays (f.ended .signature .params) (f.ended .kept)
 stayed = (stay-none-slice (0 ∷ []) tt (plain (λ _. u8)) yes, (stay-none (λ _. usize) yes, (stay-none (λ _. usize) yes, (stay-none (λ _. usize) yes, (stay-none (λ _. u32) yes, (gave-slice (1 ∷ []) tt (plain (λ _. u16)), (gave-slice (2 ∷ []) tt (plain (λ _. u16)), tt)))))))
 
+-- the contract of `next_field`
+abbrev Field : {M : Type 1} (𝓤 : URA M) (H : Heap 𝓤) (A : Atoms 𝓤) → Contract 𝓤
+Field = Next FieldInside (λ w. w) fieldRead
+
 module _ {M : Type 1} (𝓤 : URA M) (H : Heap 𝓤) (A : Atoms 𝓤) (mem : Memory → SProp 𝓤) (run : Routine → Fun 𝓤) where
-  -- the contracts that the proof cites
-  abbrev New : Contract 𝓤
-  New = tripleOf 𝓤 H A new.signature (new.spec 𝓤 H A mem run)
-
-  abbrev Next : Contract 𝓤
-  Next = tripleOf 𝓤 H A next.signature (next.spec 𝓤 H A mem run)
-
+  -- the contract of `read_entries`
   abbrev Entries : Contract 𝓤
   Entries = tripleOf 𝓤 H A entries.signature (entries.spec 𝓤 H A mem run)
 
@@ -94,24 +88,14 @@ module _ {M : Type 1} (𝓤 : URA M) (H : Heap 𝓤) (A : Atoms 𝓤) (W : Given
   abbrev κs : Lfts 3
   κs = (κ, (κ₁, (κ₂, tt)))
 
-  -- the place for the other two fields, under the name δ at the list l
-  abbrev y : GName → List ℕ → RefT (List ℕ)
-  y δ l = record { ptr = (b, o); name = δ; now = l }
-
-  -- the machine values of the bytes, of the buffer and of that place
-  abbrev v : Val
-  v = sliceVal (bytes .ptr) (length (bytes .now))
-
+  -- the machine values of the buffer, and of the place for the other two fields
   abbrev s : Val
   s = sliceVal (x .ptr) (length (x .now))
 
   abbrev s₂ : Val
   s₂ = sliceVal (b, o) (length ys)
 
-  -- the position at bit m, and where the entries end
-  abbrev rd : ℕ → Reader
-  rd m = record { bytes = bytes; at = m }
-
+  -- where the entries end
   abbrev behind : ℕ
   behind = 11 + (total n - total 1)
 
@@ -119,77 +103,38 @@ module _ {M : Type 1} (𝓤 : URA M) (H : Heap 𝓤) (A : Atoms 𝓤) (W : Given
   Args = RefT (List ℕ) × (ℕ × (ℕ × (ℕ × (ℕ × (RefT (List ℕ) × (RefT (List ℕ) × Unit {0}))))))
 
   abbrev a : Args
-  a = (bytes, (first, (last, (n, (p, (x, (y γ ys, tt)))))))
+  a = (bytes, (first, (last, (n, (p, (x, (named-at b o (length ys) γ ys, tt)))))))
 
   abbrev vals : Vals f.signature κs
-  vals = (v ∷ [], (vint w64 first ∷ [], (vint w64 last ∷ [], (vint w64 n ∷ [], (vint w32 p ∷ [], (s ∷ [], (s₂ ∷ [], tt)))))))
+  vals = (bytes-value bytes ∷ [], (vint w64 first ∷ [], (vint w64 last ∷ [], (vint w64 n ∷ [], (vint w32 p ∷ [], (s ∷ [], (s₂ ∷ [], tt)))))))
 
   abbrev Post : Val → SProp 𝓤
   Post = walkOf 𝓤 H A f.ended stayed (f.clauses 𝓤 H A mem run) .post ((κs, (q, (q₁, (q₂, tt))), tt, a, vals), tt)
 
-  abbrev Bytes : Fml
-  Bytes = ShrSlice (named 0) κ u8 .own bytes (v ∷ [])
+  abbrev Whole : Fml
+  Whole = MutSlice (named 1) κ₁ u16 .own x (s ∷ [])
 
-  abbrev Buffer : Fml
-  Buffer = MutSlice (named 1) κ₁ u16 .own x (s ∷ [])
-
-  abbrev Own : Reader → Val → Fml
-  Own r u = B κs .own r (u ∷ [])
-
-  abbrev D : Declared
-  D = T.the-type (namedLft 3 0 tt κs)
-
-  abbrev L : LL.Laws D
-  L = T′.the-laws (namedLft 3 0 tt κs)
-
-  -- the struct's type as a local of a body has it
-  abbrev αᵉ : NamedLft
-  αᵉ = record { mir = erased; lft = κ }
-
-  -- ---- the callees: what each is passed, and that the caller has what it asks
-  abbrev to-new : New 𝓤 H A mem run .Ghost
-  to-new = (((κ, tt), (q, tt), tt, (bytes, tt), (v ∷ [], tt)), tt)
-
-  goes-new : ent 𝓤 (sep 𝓤 (A .lft κ q) (sem 𝓤 H A Bytes)) (New 𝓤 H A mem run .pre to-new)
-  goes-new = qed W (‵ (flft κ q) ∷ ‵ Bytes ∷ []) ∵ nothing ! $ move ! (2 ∷ 0 ∷ []) $ fjoin ! $ nothing ! $ move ! (2 ∷ 0 ∷ []) $ join ! $ join ! $ frame ! $ done !
-
-  new-said : (r : Reader) → ent 𝓤 (ensured 𝓤 H A new.ended (new.clauses 𝓤 H A mem run) (κ, tt) (bytes, tt) tt r) (fact 𝓤 (r ≡ atStart bytes))
-  new-said r = exE 𝓤 _ (λ ws. snd∗ 𝓤 (sem 𝓤 H A (lasts new.ended (κ, tt) (bytes, tt) ws)) (fact 𝓤 (r ≡ atStart bytes)))
-
-  -- `next_field`, with the place lent at a lifetime κ′
-  abbrev one : GName → ℕ → ℕ → List ℕ → Reader × (ℕ × (RefT (List ℕ) × (ℕ × Unit {0})))
-  one δ m w l = (rd m, (w, (y δ l, (0, tt))))
-
-  abbrev to-next : Lft → Share → GName → ℕ → ℕ → List ℕ → Next 𝓤 H A mem run .Ghost
-  to-next κ′ q′ δ m w l = (((κ, (κ′, tt)), (q, (q′, tt)), tt, one δ m w l, (T′.lowered (rd m) ∷ [], (vint w32 w ∷ [], (s₂ ∷ [], (vint w64 0 ∷ [], tt))))), tt)
-
-  goes-next : (κ′ : Lft) (q′ : Share) (δ : GName) (m w : ℕ) (l : List ℕ) → w < 2 ^ 32 → FieldInside (now bytes) m w (length l) 0
-      → ent 𝓤 (⋆ 𝓤 H A ((‵ (Own (rd m) (T′.lowered (rd m))) ⊛ ‵ (flft κ q)) ∷ ‵ (flft κ′ q′) ∷ ‵ (MutSlice (named 1) κ′ u16 .own (y δ l) (s₂ ∷ [])) ∷ [])) (Next 𝓤 H A mem run .pre (to-next κ′ q′ δ m w l))
-  goes-next κ′ q′ δ m w l w-fits within =
-      qed W ((‵ (Own (rd m) (T′.lowered (rd m))) ⊛ ‵ (flft κ q)) ∷ ‵ (flft κ′ q′) ∷ ‵ (MutSlice (named 1) κ′ u16 .own (y δ l) (s₂ ∷ [])) ∷ []) ∵ says ! within $ split ! $
-      nothing ! $ owned ! usize (Is usize) (uint-makes 𝓤 H A W w64) 0 _ (refl, lit< tt) $ fjoin ! $ move ! (4 ∷ 0 ∷ []) $ fjoin ! $ owned ! u32 (Is u32) (uint-makes 𝓤 H A W w32) w _ (refl, w-fits) $ fjoin ! $ move ! (1 ∷ 0 ∷ []) $ fjoin ! $
-      nothing ! $ move ! (3 ∷ 0 ∷ []) $ join ! $ move ! (2 ∷ 0 ∷ []) $ join ! $ frame ! $ done !
-
+  -- ---- the call of `read_entries`
   abbrev all : Reader × (ℕ × (ℕ × (ℕ × (RefT (List ℕ) × Unit {0}))))
-  all = (rd 11, (first, (last, (n, (x, tt)))))
+  all = (stands bytes 11, (first, (last, (n, (x, tt)))))
 
   abbrev to-entries : Entries 𝓤 H A mem run .Ghost
-  to-entries = (((κ, (κ₁, tt)), (q, (q₁, tt)), tt, all, (T′.lowered (rd 11) ∷ [], (vint w64 first ∷ [], (vint w64 last ∷ [], (vint w64 n ∷ [], (s ∷ [], tt)))))), tt)
+  to-entries = (((κ, (κ₁, tt)), (q, (q₁, tt)), tt, all, (T′.lowered (stands bytes 11) ∷ [], (vint w64 first ∷ [], (vint w64 last ∷ [], (vint w64 n ∷ [], (s ∷ [], tt)))))), tt)
 
   goes-entries : Left (now bytes) 11 1 n 0 (length (now x)) × Parts first last n
-      → ent 𝓤 (⋆ 𝓤 H A ((‵ (Own (rd 11) (T′.lowered (rd 11))) ⊛ ‵ (flft κ q)) ∷ ‵ (flft κ₁ q₁) ∷ ‵ Buffer ∷ [])) (Entries 𝓤 H A mem run .pre to-entries)
+      → ent 𝓤 (⋆ 𝓤 H A ((‵ (Stands κ bytes 11) ⊛ ‵ (flft κ q)) ∷ ‵ (flft κ₁ q₁) ∷ ‵ Whole ∷ [])) (Entries 𝓤 H A mem run .pre to-entries)
   goes-entries within =
-      qed W ((‵ (Own (rd 11) (T′.lowered (rd 11))) ⊛ ‵ (flft κ q)) ∷ ‵ (flft κ₁ q₁) ∷ ‵ Buffer ∷ []) ∵ says ! within $ split ! $
+      qed W ((‵ (Stands κ bytes 11) ⊛ ‵ (flft κ q)) ∷ ‵ (flft κ₁ q₁) ∷ ‵ Whole ∷ []) ∵ says ! within $ split ! $
       nothing ! $ move ! (4 ∷ 0 ∷ []) $ fjoin ! $ owned ! usize (Is usize) (uint-makes 𝓤 H A W w64) n _ (refl, n-fits) $ fjoin ! $ owned ! usize (Is usize) (uint-makes 𝓤 H A W w64) last _ (refl, last-fits) $ fjoin ! $
       owned ! usize (Is usize) (uint-makes 𝓤 H A W w64) first _ (refl, first-fits) $ fjoin ! $ move ! (1 ∷ 0 ∷ []) $ fjoin ! $ nothing ! $ move ! (3 ∷ 0 ∷ []) $ join ! $ move ! (2 ∷ 0 ∷ []) $ join ! $ frame ! $ done !
 
   -- ---- the exit
   exits : (zs ws : List ℕ) → length zs ≡ length (now x) → length ws ≡ length ys → Reading (now bytes) 11 (total n) n zs × (getD ws 0 0 ≡ valueAt (now bytes) (total n) p)
-      → ent 𝓤 (⋆ 𝓤 H A ((‵ (flft κ q) ⊛ ‵ (flft κ₂ q₂) ⊛ ‵ ftrue) ∷ ‵ (finally u16 γ ws) ∷ ‵ (flft κ₁ q₁) ∷ ‵ (finally u16 (x .name) zs) ∷ ‵ Bytes ∷ [])) (Post vunit)
+      → ent 𝓤 (⋆ 𝓤 H A (‵ (flft κ₂ q₂) ∷ ‵ (flft κ q) ∷ ‵ (finally u16 γ ws) ∷ ‵ (flft κ₁ q₁) ∷ ‵ (finally u16 (x .name) zs) ∷ ‵ (Bytes κ bytes) ∷ [])) (Post vunit)
   exits zs ws same₁ same₂ e =
-      qed W ((‵ (flft κ q) ⊛ ‵ (flft κ₂ q₂) ⊛ ‵ ftrue) ∷ ‵ (finally u16 γ ws) ∷ ‵ (flft κ₁ q₁) ∷ ‵ (finally u16 (x .name) zs) ∷ ‵ Bytes ∷ []) ∵
+      qed W (‵ (flft κ₂ q₂) ∷ ‵ (flft κ q) ∷ ‵ (finally u16 γ ws) ∷ ‵ (flft κ₁ q₁) ∷ ‵ (finally u16 (x .name) zs) ∷ ‵ (Bytes κ bytes) ∷ []) ∵
       suffices ! _ (ends-at 𝓤 H A f.ended stayed (f.clauses 𝓤 H A mem run) W ((κs, (q, (q₁, (q₂, tt))), tt, a, vals), tt) vunit tt (tt, (tt, (tt, (tt, (tt, (zs, (ws, tt))))))) (tt, (tt, (tt, (tt, (tt, (same₁, (same₂, tt)))))))) $ says ! e $
-      split ! $ move ! (3 ∷ 1 ∷ []) $ join ! $ move ! (1 ∷ 0 ∷ []) $ join ! $ frame ! $
+      nothing ! $ move ! (1 ∷ 0 ∷ []) $ join ! $ move ! (3 ∷ 0 ∷ []) $ join ! $ move ! (1 ∷ 0 ∷ []) $ join ! $ frame ! $
       -- [the last lists; what the bytes own]
       nothing ! $ move ! (1 ∷ 0 ∷ []) $ fjoin ! $ move ! (1 ∷ 0 ∷ []) $ fjoin ! $ owned ! u32 (Is u32) (uint-makes 𝓤 H A W w32) p _ (refl, p-fits) $ fjoin ! $ owned ! usize (Is usize) (uint-makes 𝓤 H A W w64) n _ (refl, n-fits) $ fjoin ! $
       owned ! usize (Is usize) (uint-makes 𝓤 H A W w64) last _ (refl, last-fits) $ fjoin ! $ owned ! usize (Is usize) (uint-makes 𝓤 H A W w64) first _ (refl, first-fits) $ fjoin ! $ move ! (1 ∷ 0 ∷ []) $ fjoin ! $
@@ -199,47 +144,33 @@ module _ {M : Type 1} (𝓤 : URA M) (H : Heap 𝓤) (A : Atoms 𝓤) (W : Given
   abbrev Due : Type 0
   Due = (Left (now bytes) 11 1 n 0 (length (now x)) × Parts first last n × Reading (now bytes) 11 11 1 (now x)) × FieldInside (now bytes) (total n) p (length ys) 0
 
-  module _ (C : Calls 𝓤 H) (Λ : Loops 𝓤 H) (fm : FmC 𝓤 H (W .laws) C) (known-new : Triple 𝓤 (C #bit-reader·reading) (New 𝓤 H A mem run)) (known-next : Triple 𝓤 (C #bit-reader·next-field) (Next 𝓤 H A mem run)) (known-entries : Triple 𝓤 (C #fields·read-entries) (Entries 𝓤 H A mem run)) where
-    walk : Is (ShrSlice (named 0) κ u8) bytes (v ∷ []) → Room u16 (length (now x)) → Room u16 (length ys) → Due
-        → ent 𝓤 (onEntry 𝓤 H A f.signature κs (q, (q₁, (q₂, tt))) a vals) (WpFn 𝓤 H C Λ code.function (v ∷ vint w64 first ∷ vint w64 last ∷ vint w64 n ∷ vint w32 p ∷ s ∷ s₂ ∷ []) Post)
+  module _ (C : Calls 𝓤 H) (Λ : Loops 𝓤 H) (fm : FmC 𝓤 H (W .laws) C) (known-new : Triple 𝓤 (C #bit-reader·reading) (New 𝓤 H A mem run)) (known-next : Triple 𝓤 (C #bit-reader·next-field) (Field 𝓤 H A)) (known-entries : Triple 𝓤 (C #fields·read-entries) (Entries 𝓤 H A mem run)) where
+    walk : Is (ShrSlice (named 0) κ u8) bytes (bytes-value bytes ∷ []) → Room u16 (length (now x)) → Room u16 (length ys) → Due
+        → ent 𝓤 (onEntry 𝓤 H A f.signature κs (q, (q₁, (q₂, tt))) a vals) (WpFn 𝓤 H C Λ code.function (bytes-value bytes ∷ vint w64 first ∷ vint w64 last ∷ vint w64 n ∷ vint w32 p ∷ s ∷ s₂ ∷ []) Post)
     walk bytes-are room room₂ due =
         let some-leaf : 1 ≤ n = due .0 .0 .most in
-        let typed-bytes = shr-slice-lawful 𝓤 H A W (named 0) κ u8 .typed bytes (v ∷ []) bytes-are .0 in
+        let typed-bytes = shr-slice-lawful 𝓤 H A W (named 0) κ u8 .typed bytes (bytes-value bytes ∷ []) bytes-are .0 in
         qed W ((‵ (flft κ q) ⊛ ‵ (flft κ₁ q₁) ⊛ ‵ (flft κ₂ q₂) ⊛ ‵ ftrue) ∷ ‵ (owns (ShrSlice (named 0) κ u8 ∷ usize ∷ usize ∷ usize ∷ u32 ∷ MutSlice (named 1) κ₁ u16 ∷ MutSlice (named 2) κ₂ u16 ∷ []) a vals) ∷ []) ∵
-        enter ! C Λ code.function (v ∷ vint w64 first ∷ vint w64 last ∷ vint w64 n ∷ vint w32 p ∷ s ∷ s₂ ∷ []) _ $
+        enter ! C Λ code.function (bytes-value bytes ∷ vint w64 first ∷ vint w64 last ∷ vint w64 n ∷ vint w32 p ∷ s ∷ s₂ ∷ []) _ $
         alloc1 ! (λ l₀. alloc1 ! (λ l₁. alloc1 ! (λ l₂. alloc1 ! (λ l₃. alloc1 ! (λ l₄. alloc1 ! (λ l₅. alloc1 ! (λ l₆. alloc1 ! (λ l₇. alloc1 ! (λ l₈. alloc1 ! (λ l₉. alloc1 ! (λ l₁₀. alloc1 ! (λ l₁₁. alloc1 ! (λ l₁₂. alloc1 ! (λ l₁₃. alloc1 ! (λ l₁₄.
         alloc1 ! (λ l₁₅. alloc1 ! (λ l₁₆. alloc1 ! (λ l₁₇. alloc1 ! (λ l₁₈. alloc0 ! $ params1 ! $
         pass1 ! (init ! 34 refl typed-bytes) $ pass1 ! (init ! 32 refl (tt, record { fits = first-fits })) $ pass1 ! (init ! 30 refl (tt, record { fits = last-fits })) $ pass1 ! (init ! 28 refl (tt, record { fits = n-fits })) $
         pass1 ! (init ! 26 refl (tt, record { fits = p-fits })) $
         pass1 ! (init ! 24 refl (tt, (tt, (record { fits = room .0 }, tt)))) $ pass1 ! (init ! 22 refl (tt, (tt, (record { fits = room₂ .0 }, tt)))) $ pass0 ! $
-        move ! (39 ∷ []) $ fsplit ! $ use1 W (‵ Bytes ⊛ ‵ Bytes) (shr-slice-copy 𝓤 H A W (named 0) κ u8 .twice bytes (v ∷ [])) $ split ! $
+        move ! (39 ∷ []) $ fsplit ! $ use1 W (‵ (Bytes κ bytes) ⊛ ‵ (Bytes κ bytes)) (shr-slice-copy 𝓤 H A W (named 0) κ u8 .twice bytes (bytes-value bytes ∷ [])) $ split ! $
         move ! (2 ∷ []) $ fsplit ! $ drop ! $ fsplit ! $ drop ! $ fsplit ! $ drop ! $ fsplit ! $ drop ! $ fsplit ! $ move ! (1 ∷ []) $ fsplit ! $ move ! (1 ∷ []) $ drop ! $
         move ! (42 ∷ []) $ split ! $ move ! (1 ∷ []) $ split ! $ move ! (1 ∷ []) $ split ! $ move ! (1 ∷ []) $ drop ! $
         -- [the tokens of the place, the buffer and the bytes; what each owns, the bytes twice; _18; …; _17; …; down to room for _0; …]
-        move ! (2 ∷ 5 ∷ []) $ use2 W (raw (New 𝓤 H A mem run .pre to-new)) goes-new $
-        calls-at ! fm (New 𝓤 H A mem run) known-new to-new (and-then ! (load ! (from ! (stop !)) (look ! 40 refl)) (no-more !)) (λ u₀.
-        use1 W (later (some (λ (r : Reader). ((‵ (flft κ q) ⊛ ‵ ftrue) ⊛ ‵ (Own r u₀)) ⊛ raw (ensured 𝓤 H A new.ended (new.clauses 𝓤 H A mem run) (κ, tt) (bytes, tt) tt r)))) (id⊢ 𝓤 _) $ await ! tt $ pick ! (λ r₀.
-        split ! $ move ! (1 ∷ []) $ use1 W (raw (fact 𝓤 (r₀ ≡ atStart bytes))) (new-said r₀) $ heard ! (r₀ ≡ atStart bytes) (λ e₀. split ! $ split ! $ move ! (1 ∷ []) $ drop ! $ move ! (1 ∷ []) $
-        rewrite ! 0 (λ (d : Reader). ‵ (Own d u₀)) e₀ refl $
+        move ! (2 ∷ 5 ∷ []) $ starts ! fm mem run known-new κ q bytes (and-then ! (load ! (from ! (stop !)) (look ! 40 refl)) (no-more !)) (λ is₀.
         -- [what the position owns; its token; the tokens of the place and the buffer; what these own; what the bytes own; _18; …]
-        peeks ! (B κs) (Is (B κs)) (shows 𝓤 H A (B κs)) (rd 0) (u₀ ∷ []) (λ is₀.
-        let spelt : u₀ ≡ T′.lowered (rd 0) = ap only (LL.tells D L (rd 0) _ is₀) in
-        land ! (from ! (stop !)) (init ! 23 refl (LL.lawful (T.the-type αᵉ) (T′.the-laws αᵉ) 𝓤 H A W .typed (rd 0) _ is₀ .0)) $ rewrite ! 23 (λ (u : Val). ‵ (fat fullShare (T′.mir erased) l₁₀ 0 u)) spelt refl $ rewrite ! 0 (λ (u : Val). ‵ (Own (rd 0) u)) spelt refl $
+        land ! (from ! (stop !)) (init ! 23 refl (typed κ bytes 0 is₀ 𝓤 H A W erased)) $
         -- the count
         assigns ! (addr ! (from ! (fld ! refl (hop ! (look-in ! 29 (sub ! 0 refl (whole !))) (stop !))))) (from ! (stop !)) (init ! 21 refl (tt, tt)) $
         assigns ! (agg ! (and-then ! (load ! (from ! (stop !)) (look ! 21 refl)) (and-then ! (load ! (from ! (fld ! refl (stop !))) (look-in ! 29 (sub ! 1 refl (whole !)))) (no-more !)))) (from ! (stop !)) (init ! 19 refl (tt, (tt, (record { fits = room₂ .0 }, tt)))) $
-        move ! (4 ∷ 2 ∷ []) $ lent ! tt u16 (named 2) (named 1) κ₂ q₂ γ b o (length ys) ys refl (λ ν δ. move ! (3 ∷ 4 ∷ 0 ∷ 1 ∷ []) $ join ! $
-        use3 W (raw (Next 𝓤 H A mem run .pre (to-next (ν ∷ []) fullShare δ 0 11 ys))) (goes-next (ν ∷ []) fullShare δ 0 11 ys (lit< tt) (count-inside (now bytes) p (length ys) n some-leaf (due .1))) $
-        calls-at ! fm (Next 𝓤 H A mem run) known-next (to-next (ν ∷ []) fullShare δ 0 11 ys) (and-then ! (load ! (from ! (stop !)) (look ! 21 refl)) (and-then ! (lit ! tt) (and-then ! (load ! (from ! (stop !)) (look ! 17 refl)) (and-then ! (lit ! tt) (no-more !))))) (λ u₁.
-        use1 W (later (some (λ (r : Reader). ((‵ (flft κ q) ⊛ ‵ (flft (ν ∷ []) fullShare) ⊛ ‵ ftrue) ⊛ ‵ (Own r u₁)) ⊛ raw (ensured 𝓤 H A next.ended (next.clauses 𝓤 H A mem run) (κ, (ν ∷ [], tt)) (one δ 0 11 ys) tt r)))) (id⊢ 𝓤 _) $ await ! tt $ pick ! (λ r₁.
-        split ! $ move ! (1 ∷ []) $
-        use1 W (some (λ (zs : Unit {0} × (Unit {0} × (List ℕ × (Unit {0} × Unit {0})))). ‵ (lasts next.ended (κ, (ν ∷ [], tt)) (one δ 0 11 ys) zs) ⊛ raw (fact 𝓤 ((r₁ ≡ movedOn 11 (rd 0)) × (zs .1 .1 .0 ≡ fieldRead (now bytes) 0 11 ys 0))))) (id⊢ 𝓤 _) $ pick ! (λ ws₁.
-        split ! $ move ! (1 ∷ []) $ heard ! ((r₁ ≡ movedOn 11 (rd 0)) × (ws₁ .1 .1 .0 ≡ fieldRead (now bytes) 0 11 ys 0)) (λ e₁. fsplit ! $ drop ! $ fsplit ! $ drop ! $ fsplit ! $ move ! (1 ∷ []) $ drop ! $ fsplit ! $ move ! (1 ∷ []) $ feqL ! (λ same₁.
-        move ! (1 ∷ []) $ split ! $ split ! $ move ! (1 ∷ []) $ split ! $ move ! (1 ∷ []) $ drop ! $ move ! (0 ∷ 4 ∷ 3 ∷ []) $ back ! tt u16 (named 2) κ₂ q₂ γ b o (length ys) room₂ ys refl ν δ (ws₁ .1 .1 .0) same₁ $ move ! (3 ∷ 2 ∷ 1 ∷ 4 ∷ 0 ∷ []) $
-        rewrite ! 0 (λ (d : Reader). ‵ (Own d u₁)) (e₁ .0) refl $
-        peeks ! (B κs) (Is (B κs)) (shows 𝓤 H A (B κs)) (rd 11) (u₁ ∷ []) (λ is₁.
-        let spelt : u₁ ≡ T′.lowered (rd 11) = ap only (LL.tells D L (rd 11) _ is₁) in
-        land ! (from ! (stop !)) (init ! 27 refl (LL.lawful (T.the-type αᵉ) (T′.the-laws αᵉ) 𝓤 H A W .typed (rd 11) _ is₁ .0)) $ rewrite ! 27 (λ (u : Val). ‵ (fat fullShare (T′.mir erased) l₈ 0 u)) spelt refl $ rewrite ! 0 (λ (u : Val). ‵ (Own (rd 11) u)) spelt refl $
+        move ! (0 ∷ 4 ∷ 2 ∷ 1 ∷ []) $
+        reads-next FieldInside (λ w. w) fieldRead ! fm known-next κ κ₂ q q₂ (named 2) γ b o (length ys) room₂ bytes 0 11 0 ys refl (lit< tt) (lit< tt) (count-inside (now bytes) p (length ys) n some-leaf (due .1))
+        (λ ν δ. and-then ! (load ! (from ! (stop !)) (look ! 21 refl)) (and-then ! (lit ! tt) (and-then ! (load ! (from ! (stop !)) (look ! 17 refl)) (and-then ! (lit ! tt) (no-more !))))) (λ ws₁ e₁ same₁ is₁.
+        move ! (0 ∷ 3 ∷ 2 ∷ 4 ∷ 1 ∷ []) $ land ! (from ! (stop !)) (init ! 27 refl (typed κ bytes 11 is₁ 𝓤 H A W erased)) $
         -- the entries
         assigns ! (of-opd ! (load ! (from ! (stop !)) (look ! 27 refl))) (from ! (stop !)) (init ! 17 refl (tt, (typed-bytes .1, (record { fits = lit< tt }, tt)))) $
         assigns ! (addr ! (from ! (fld ! refl (hop ! (look-in ! 31 (sub ! 0 refl (whole !))) (stop !))))) (from ! (stop !)) (init ! 15 refl (tt, tt)) $
@@ -247,39 +178,32 @@ module _ {M : Type 1} (𝓤 : URA M) (H : Heap 𝓤) (A : Atoms 𝓤) (W : Given
         move ! (0 ∷ 1 ∷ 3 ∷ 5 ∷ []) $ join ! $ use3 W (raw (Entries 𝓤 H A mem run .pre to-entries)) (goes-entries (due .0 .0, due .0 .1)) $
         calls-at ! fm (Entries 𝓤 H A mem run) known-entries to-entries (and-then ! (load ! (from ! (stop !)) (look ! 14 refl)) (and-then ! (load ! (from ! (stop !)) (look ! 36 refl)) (and-then ! (load ! (from ! (stop !)) (look ! 34 refl))
         (and-then ! (load ! (from ! (stop !)) (look ! 32 refl)) (and-then ! (load ! (from ! (stop !)) (look ! 10 refl)) (no-more !)))))) (λ u₂.
-        use1 W (later (some (λ (r : Reader). ((‵ (flft κ q) ⊛ ‵ (flft κ₁ q₁) ⊛ ‵ ftrue) ⊛ ‵ (Own r u₂)) ⊛ raw (ensured 𝓤 H A entries.ended (entries.clauses 𝓤 H A mem run) (κ, (κ₁, tt)) all tt r)))) (id⊢ 𝓤 _) $ await ! tt $ pick ! (λ r₂.
-        split ! $ move ! (1 ∷ []) $ use1 W (some (λ (zs : Unit {0} × (Unit {0} × (Unit {0} × (Unit {0} × (List ℕ × Unit {0}))))). ‵ (lasts entries.ended (κ, (κ₁, tt)) all zs) ⊛ raw (fact 𝓤 (Read (rd 11) 1 n (now x) r₂ (zs .1 .1 .1 .1 .0))))) (id⊢ 𝓤 _) $ pick ! (λ zs.
-        split ! $ move ! (1 ∷ []) $ heard ! (Read (rd 11) 1 n (now x) r₂ (zs .1 .1 .1 .1 .0)) (λ e₂. fsplit ! $ drop ! $ fsplit ! $ drop ! $ fsplit ! $ drop ! $ fsplit ! $ drop ! $ fsplit ! $ move ! (1 ∷ []) $ drop ! $ fsplit ! $ move ! (1 ∷ []) $ feqL ! (λ same₂.
+        use1 W (later (some (λ (r : Reader). ((‵ (flft κ q) ⊛ ‵ (flft κ₁ q₁) ⊛ ‵ ftrue) ⊛ ‵ (Own κ r u₂)) ⊛ raw (ensured 𝓤 H A entries.ended (entries.clauses 𝓤 H A mem run) (κ, (κ₁, tt)) all tt r)))) (id⊢ 𝓤 _) $ await ! tt $ pick ! (λ r₂.
+        split ! $ move ! (1 ∷ []) $ use1 W (some (λ (zs : Unit {0} × (Unit {0} × (Unit {0} × (Unit {0} × (List ℕ × Unit {0}))))). ‵ (lasts entries.ended (κ, (κ₁, tt)) all zs) ⊛ raw (fact 𝓤 (Read (stands bytes 11) 1 n (now x) r₂ (zs .1 .1 .1 .1 .0))))) (id⊢ 𝓤 _) $ pick ! (λ zs.
+        split ! $ move ! (1 ∷ []) $ heard ! (Read (stands bytes 11) 1 n (now x) r₂ (zs .1 .1 .1 .1 .0)) (λ e₂. fsplit ! $ drop ! $ fsplit ! $ drop ! $ fsplit ! $ drop ! $ fsplit ! $ drop ! $ fsplit ! $ move ! (1 ∷ []) $ drop ! $ fsplit ! $ move ! (1 ∷ []) $ feqL ! (λ same₂.
         move ! (1 ∷ []) $ split ! $ split ! $ move ! (1 ∷ []) $ split ! $ move ! (1 ∷ []) $ drop ! $ move ! (2 ∷ 1 ∷ 4 ∷ 0 ∷ 5 ∷ 3 ∷ []) $
-        rewrite ! 0 (λ (d : Reader). ‵ (Own d u₂)) (e₂ .moved) refl $
-        peeks ! (B κs) (Is (B κs)) (shows 𝓤 H A (B κs)) (rd behind) (u₂ ∷ []) (λ is₂.
-        let spelt : u₂ ≡ T′.lowered (rd behind) = ap only (LL.tells D L (rd behind) _ is₂) in
-        land ! (from ! (stop !)) (init ! 25 refl (LL.lawful (T.the-type αᵉ) (T′.the-laws αᵉ) 𝓤 H A W .typed (rd behind) _ is₂ .0)) $ rewrite ! 25 (λ (u : Val). ‵ (fat fullShare (T′.mir erased) l₉ 0 u)) spelt refl $ rewrite ! 0 (λ (u : Val). ‵ (Own (rd behind) u)) spelt refl $
+        rewrite ! 0 (λ (d : Reader). ‵ (Own κ d u₂)) (e₂ .moved) refl $
+        spells ! κ bytes behind u₂ (λ is₂.
+        land ! (from ! (stop !)) (init ! 25 refl (typed κ bytes behind is₂ 𝓤 H A W erased)) $
         -- the padding: [what the position owns; its token; the tokens of the place and the buffer; what the place owns; the buffer's last list; what the bytes own; _18; …]
-        assigns ! (of-opd ! (load ! (from ! (stop !)) (look ! 25 refl))) (from ! (stop !)) (init ! 11 refl (tt, (typed-bytes .1, (record { fits = LL.owed D L (rd behind) _ is₂ .1 .0 .1 }, tt)))) $
+        assigns ! (of-opd ! (load ! (from ! (stop !)) (look ! 25 refl))) (from ! (stop !)) (init ! 11 refl (tt, (typed-bytes .1, (record { fits = bit-fits κ bytes behind is₂ }, tt)))) $
         assigns ! (addr ! (from ! (fld ! refl (hop ! (look-in ! 29 (sub ! 0 refl (whole !))) (stop !))))) (from ! (stop !)) (init ! 9 refl (tt, tt)) $
         assigns ! (agg ! (and-then ! (load ! (from ! (stop !)) (look ! 9 refl)) (and-then ! (load ! (from ! (fld ! refl (stop !))) (look-in ! 29 (sub ! 1 refl (whole !)))) (no-more !)))) (from ! (stop !)) (init ! 7 refl (tt, (tt, (record { fits = room₂ .0 }, tt)))) $
-        move ! (0 ∷ 1 ∷ 2 ∷ 4 ∷ []) $ join ! $ use3 W (raw (Next 𝓤 H A mem run .pre (to-next κ₂ q₂ γ behind p (ws₁ .1 .1 .0)))) (goes-next κ₂ q₂ γ behind p (ws₁ .1 .1 .0) p-fits (padding-behind (now bytes) p (length ys) n some-leaf (due .1) (ws₁ .1 .1 .0) same₁)) $
-        calls-at ! fm (Next 𝓤 H A mem run) known-next (to-next κ₂ q₂ γ behind p (ws₁ .1 .1 .0)) (and-then ! (load ! (from ! (stop !)) (look ! 8 refl)) (and-then ! (load ! (from ! (stop !)) (look ! 30 refl)) (and-then ! (load ! (from ! (stop !))
-        (look ! 4 refl)) (and-then ! (lit ! tt) (no-more !))))) (λ u₃.
-        use1 W (later (some (λ (r : Reader). ((‵ (flft κ q) ⊛ ‵ (flft κ₂ q₂) ⊛ ‵ ftrue) ⊛ ‵ (Own r u₃)) ⊛ raw (ensured 𝓤 H A next.ended (next.clauses 𝓤 H A mem run) (κ, (κ₂, tt)) (one γ behind p (ws₁ .1 .1 .0)) tt r)))) (id⊢ 𝓤 _) $ await ! tt $ pick ! (λ r₃.
-        split ! $ move ! (1 ∷ []) $
-        use1 W (some (λ (zs : Unit {0} × (Unit {0} × (List ℕ × (Unit {0} × Unit {0})))).
-        ‵ (lasts next.ended (κ, (κ₂, tt)) (one γ behind p (ws₁ .1 .1 .0)) zs) ⊛ raw (fact 𝓤 ((r₃ ≡ movedOn p (rd behind)) × (zs .1 .1 .0 ≡ fieldRead (now bytes) behind p (ws₁ .1 .1 .0) 0))))) (id⊢ 𝓤 _) $ pick ! (λ ws₂.
-        split ! $ move ! (1 ∷ []) $ heard ! ((r₃ ≡ movedOn p (rd behind)) × (ws₂ .1 .1 .0 ≡ fieldRead (now bytes) behind p (ws₁ .1 .1 .0) 0)) (λ e₃. fsplit ! $ drop ! $ fsplit ! $ drop ! $ fsplit ! $ move ! (1 ∷ []) $ drop ! $ fsplit ! $ move ! (1 ∷ []) $ feqL ! (λ same₃.
-        move ! (1 ∷ []) $ split ! $ move ! (1 ∷ []) $ peeks ! (B κs) (Is (B κs)) (shows 𝓤 H A (B κs)) r₃ (u₃ ∷ []) (λ is₃.
-        land ! (from ! (stop !)) (store ! 22 refl (LL.lawful (T.the-type αᵉ) (T′.the-laws αᵉ) 𝓤 H A W .typed r₃ _ is₃ .0)) $ drop ! $
-        assigns ! (of-opd ! (unit-lit !)) (from ! (stop !)) (init ! 41 refl (tt, tt)) $
-        returns ! (look ! 41 refl) $ forget ! 5 refl $ forget ! 7 refl $ forget ! 9 refl $ forget ! 11 refl $ forget ! 13 refl $ forget ! 15 refl $ forget ! 17 refl $ forget ! 19 refl $ forget ! 21 refl $ forget ! 23 refl $ forget ! 25 refl $
-        forget ! 27 refl $ forget ! 29 refl $ forget ! 31 refl $ forget ! 33 refl $ forget ! 35 refl $ forget ! 37 refl $ forget ! 39 refl $ forget ! 41 refl $
-        move ! (41 ∷ 42 ∷ []) $ free1 ! $ move ! (39 ∷ 40 ∷ []) $ free1 ! $ move ! (37 ∷ 38 ∷ []) $ free1 ! $ move ! (35 ∷ 36 ∷ []) $ free1 ! $ move ! (33 ∷ 34 ∷ []) $ free1 ! $ move ! (31 ∷ 32 ∷ []) $ free1 ! $ move ! (29 ∷ 30 ∷ []) $ free1 ! $
-        move ! (27 ∷ 28 ∷ []) $ free1 ! $ move ! (25 ∷ 26 ∷ []) $ free1 ! $ move ! (23 ∷ 24 ∷ []) $ free1 ! $
-        move ! (21 ∷ 22 ∷ []) $ free1 ! $ move ! (19 ∷ 20 ∷ []) $ free1 ! $ move ! (17 ∷ 18 ∷ []) $ free1 ! $ move ! (15 ∷ 16 ∷ []) $ free1 ! $ move ! (13 ∷ 14 ∷ []) $ free1 ! $ move ! (11 ∷ 12 ∷ []) $ free1 ! $ move ! (9 ∷ 10 ∷ []) $ free1 ! $
-        move ! (7 ∷ 8 ∷ []) $ free1 ! $ move ! (5 ∷ 6 ∷ []) $ free1 ! $ free0 ! $
-        by ! (exits (zs .1 .1 .1 .1 .0) (ws₂ .1 .1 .0) same₂ (same₃ ∙ same₁) (all-read bytes n p (ws₁ .1 .1 .0) some-leaf (omega (arith, due .1 .3, same₁)) (due .0 .2) e₂ (e₃ .1)))))))))))))))))))))))))))))))))))))))))))))
+        move ! (0 ∷ 4 ∷ 2 ∷ 1 ∷ []) $
+        reads-last FieldInside (λ w. w) fieldRead ! fm known-next κ κ₂ q q₂ (named 2) γ b o (length ys) bytes behind p 0 ws₁ p-fits (lit< tt) (padding-behind (now bytes) p (length ys) n some-leaf (due .1) ws₁ same₁)
+        (and-then ! (load ! (from ! (stop !)) (look ! 8 refl)) (and-then ! (load ! (from ! (stop !)) (look ! 30 refl)) (and-then ! (load ! (from ! (stop !)) (look ! 4 refl)) (and-then ! (lit ! tt) (no-more !))))) (λ u₃ ws₂ u₃-typed e₃ same₃.
+        land ! (from ! (stop !)) (store ! 22 refl u₃-typed) $
+        assigns ! (of-opd ! (unit-lit !)) (from ! (stop !)) (init ! 42 refl (tt, tt)) $
+        returns ! (look ! 42 refl) $ forget ! 6 refl $ forget ! 8 refl $ forget ! 10 refl $ forget ! 12 refl $ forget ! 14 refl $ forget ! 16 refl $ forget ! 18 refl $ forget ! 20 refl $ forget ! 22 refl $ forget ! 24 refl $ forget ! 26 refl $
+        forget ! 28 refl $ forget ! 30 refl $ forget ! 32 refl $ forget ! 34 refl $ forget ! 36 refl $ forget ! 38 refl $ forget ! 40 refl $ forget ! 42 refl $
+        move ! (42 ∷ 43 ∷ []) $ free1 ! $ move ! (40 ∷ 41 ∷ []) $ free1 ! $ move ! (38 ∷ 39 ∷ []) $ free1 ! $ move ! (36 ∷ 37 ∷ []) $ free1 ! $ move ! (34 ∷ 35 ∷ []) $ free1 ! $ move ! (32 ∷ 33 ∷ []) $ free1 ! $ move ! (30 ∷ 31 ∷ []) $ free1 ! $
+        move ! (28 ∷ 29 ∷ []) $ free1 ! $ move ! (26 ∷ 27 ∷ []) $ free1 ! $ move ! (24 ∷ 25 ∷ []) $ free1 ! $
+        move ! (22 ∷ 23 ∷ []) $ free1 ! $ move ! (20 ∷ 21 ∷ []) $ free1 ! $ move ! (18 ∷ 19 ∷ []) $ free1 ! $ move ! (16 ∷ 17 ∷ []) $ free1 ! $ move ! (14 ∷ 15 ∷ []) $ free1 ! $ move ! (12 ∷ 13 ∷ []) $ free1 ! $ move ! (10 ∷ 11 ∷ []) $ free1 ! $
+        move ! (8 ∷ 9 ∷ []) $ free1 ! $ move ! (6 ∷ 7 ∷ []) $ free1 ! $ free0 ! $
+        by ! (exits (zs .1 .1 .1 .1 .0) ws₂ same₂ (same₃ ∙ same₁) (all-read bytes n p ws₁ some-leaf (omega (arith, due .1 .3, same₁)) (due .0 .2) e₂ e₃))))))))))))))))))))))))))))))
 
 module _ {M : Type 1} (𝓤 : URA M) (H : Heap 𝓤) (A : Atoms 𝓤) (W : Given 𝓤 H A) (mem : Memory → SProp 𝓤) (run : Routine → Fun 𝓤) where
-  fields-walk : (C : Calls 𝓤 H) (Λ : Loops 𝓤 H) → FmC 𝓤 H (W .laws) C → Triple 𝓤 (C #bit-reader·reading) (New 𝓤 H A mem run) → Triple 𝓤 (C #bit-reader·next-field) (Next 𝓤 H A mem run) → Triple 𝓤 (C #fields·read-entries) (Entries 𝓤 H A mem run)
+  fields-walk : (C : Calls 𝓤 H) (Λ : Loops 𝓤 H) → FmC 𝓤 H (W .laws) C → Triple 𝓤 (C #bit-reader·reading) (New 𝓤 H A mem run) → Triple 𝓤 (C #bit-reader·next-field) (Field 𝓤 H A) → Triple 𝓤 (C #fields·read-entries) (Entries 𝓤 H A mem run)
       → Walks 𝓤 H A f.ended stayed (WpFn 𝓤 H C Λ code.function) (f.clauses 𝓤 H A mem run)
   fields-walk C Λ fm known-new known-next known-entries = walked 𝓤 H A f.ended stayed (f.clauses 𝓤 H A mem run) (WpFn 𝓤 H C Λ code.function)
       (λ κs. (slice-vals, (uint-vals w64, (uint-vals w64, (uint-vals w64, (uint-vals w32, (slice-vals, (slice-vals, tt))))))))
@@ -290,7 +214,7 @@ module _ {M : Type 1} (𝓤 : URA M) (H : Heap 𝓤) (A : Atoms 𝓤) (W : Given
       (are .1 .0 .1) (are .1 .1 .0 .1) (are .1 .1 .1 .0 .1) (are .1 .1 .1 .1 .0 .1) C Λ fm known-new known-next known-entries (are .0) (are .1 .1 .1 .1 .1 .0 .0 .1) (are .1 .1 .1 .1 .1 .1 .0 .0 .1)))
 
 fields-meet : {M : Type 1} (𝓤 : URA M) (H : Heap 𝓤) (A : Atoms 𝓤) (W : Given 𝓤 H A) (mem : Memory → SProp 𝓤) (run : Routine → Fun 𝓤) (𝓣 : Tables 𝓤 H)
-    → Triple 𝓤 (𝓣 .C #bit-reader·reading) (New 𝓤 H A mem run) → Triple 𝓤 (𝓣 .C #bit-reader·next-field) (Next 𝓤 H A mem run) → Triple 𝓤 (𝓣 .C #fields·read-entries) (Entries 𝓤 H A mem run)
+    → Triple 𝓤 (𝓣 .C #bit-reader·reading) (New 𝓤 H A mem run) → Triple 𝓤 (𝓣 .C #bit-reader·next-field) (Field 𝓤 H A) → Triple 𝓤 (𝓣 .C #fields·read-entries) (Entries 𝓤 H A mem run)
     → Meets 𝓤 H A f.signature (WpFn 𝓤 H (𝓣 .C) (𝓣 .Λ) code.function) (f.spec 𝓤 H A mem run)
 fields-meet 𝓤 H A W mem run 𝓣 known-new known-next known-entries =
     let number = goes-none 𝓤 H A W 3 (λ _. usize) yes (λ κs x f. refl) in
@@ -305,5 +229,5 @@ read-fields-spec 𝓤 H 𝓜 𝓖 𝓡 =
     (tables 𝓤 H 𝓜 𝓡 code.env .C) (tables 𝓤 H 𝓜 𝓡 code.env .Λ) #fields·read-fields code.function (code.unfolded 𝓤 H 𝓜 𝓡)
     (fields-meet 𝓤 H (𝓖 .A) (givenOf 𝓤 H 𝓜 𝓖) (𝓜 .mem) (𝓡 .run) (tablesOf 𝓤 H 𝓜 (tables 𝓤 H 𝓜 𝓡 code.env))
     (cited 𝓤 H (New 𝓤 H (𝓖 .A) (𝓜 .mem) (𝓡 .run)) 𝓜 𝓡 code.env #bit-reader·reading new-def.routine code.calls-bit-reader·reading (new-thm.met 𝓤 H 𝓜 𝓖 𝓡))
-    (cited 𝓤 H (Next 𝓤 H (𝓖 .A) (𝓜 .mem) (𝓡 .run)) 𝓜 𝓡 code.env #bit-reader·next-field next-def.routine code.calls-bit-reader·next-field (next-thm.met 𝓤 H 𝓜 𝓖 𝓡))
+    (cited 𝓤 H (Field 𝓤 H (𝓖 .A)) 𝓜 𝓡 code.env #bit-reader·next-field next-def.routine code.calls-bit-reader·next-field (next-thm.met 𝓤 H 𝓜 𝓖 𝓡))
     (cited 𝓤 H (Entries 𝓤 H (𝓖 .A) (𝓜 .mem) (𝓡 .run)) 𝓜 𝓡 code.env #fields·read-entries entries-def.routine code.calls-fields·read-entries (entries-thm.met 𝓤 H 𝓜 𝓖 𝓡)))
