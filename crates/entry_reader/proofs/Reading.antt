@@ -1,22 +1,16 @@
 -- While entries are read, one by one or four by four, by numbers of bits; and what that says of a reading position.
 -- Main definitions: Passed, Onward, Running. Main results: passed-read, onward-one, onward-read, running-next.
-use mathlib.Core.Path.{_≡_, refl, sym, ap, subst, _∙_}
-use mathlib.Core.Bool.{not}
+use mathlib.Core.Path.{_≡_, refl, ap, subst, _∙_}
 use mathlib.Core.List.{List, [], _∷_, _++_}
-use Prim.Native.Nat.{ℕ, zero, suc, _+_, _-_, _*_, _%_, _^_, _≤_, _<_, min}
+use Prim.Native.Nat.{ℕ, suc, _+_, _-_, _*_, _%_, _≤_, _<_}
 use native.Mathlib.Numerals.{add-one}
 use native.Mathlib.Omega.{arith}
-use lib.Dec.{eqb}
-use borrow.Author.Tests.{ne-eqb}
 use denote.Ref.{RefT, now}
-use lib.ListN.{length, drop, getD, set, length-set, length-drop}
-use lib.Pow.{pow-pos}
-use lib.Seq.{take-suc-set, take-all, getD-set-same}
+use lib.ListN.{length, set, length-set}
+use lib.Seq.{take-suc-set}
 use Rattle.rules.specs.Order.{listed}
-use Rattle.rules.specs.Record.{Bits, width, total, recordLength, number, bitsOf, anySet}
-use Rattle.record_laws.specs.Number.{AreBits, are-drop, number-cons}
-use Rattle.record_laws.specs.Bytes.{are-bits, length-bits}
-use Rattle.record_laws.specs.Width.{width-most, total-suc, total-mono, total-least, total-one, record-length-bits, record-length-most}
+use Rattle.rules.specs.Record.{width, total}
+use Rattle.record_laws.specs.Width.{width-most, total-suc, total-mono, total-least}
 use Rattle.record_laws.specs.Window.{valueAt}
 use Rattle.record_laws.specs.Fields.{entryFrom, entriesFrom, total-header}
 use Rattle.bit_reader.specs.declared.Reader.{Reader}

@@ -1,13 +1,12 @@
 -- The step rule of a table of totals: each entry is the one before it and a width. A table that is made by the rule holds the totals.
 -- Main definitions: steps. Main results: steps-at.
-use mathlib.Core.Path.{_≡_, refl, sym, ap, _∙_}
+use mathlib.Core.Path.{_≡_, sym, ap, _∙_}
 use mathlib.Core.List.{List, [], _∷_}
 use Prim.Native.Nat.{ℕ, zero, suc, _+_, _<_}
 use native.Mathlib.Nat.{add-zero}
 use native.Mathlib.Omega.{arith}
 use lib.ListN.{getD}
 use Rattle.rules.specs.Record.{width, total}
-use Rattle.record_laws.specs.Width.{total-suc}
 
 -- x, which is total i, and the k - 1 totals after it, by the step rule
 unfoldable pub steps : ℕ → ℕ → ℕ → List ℕ

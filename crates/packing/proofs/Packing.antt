@@ -1,5 +1,5 @@
 -- The count and the entries behind it are the record.
--- Main results: entries-due, packed.
+-- Main definitions: builtBytes, Packed. Main results: entries-due, packed.
 use mathlib.Core.Path.{_≡_, refl, sym, ap, _∙_}
 use mathlib.Core.List.{List, [], _∷_, _++_, append-nil}
 use Prim.Native.Nat.{ℕ, suc, _+_, _/_, _≤_}
@@ -30,9 +30,17 @@ unfolding fields width
 first-fields [] h = absurd (omega arith)
 first-fields (x ∷ v) h = refl
 
-module _ (v : List ℕ) (p : Pending) (a : List ℕ) (count : Put nothing 11 (length v) (replicate 1288 0) p a) where
+-- the bytes in which a record is built: those of the longest, and a word behind them
+abbrev pub builtBytes : ℕ
+builtBytes = 1288
+
+-- what is held in the bytes b is the record of v
+abbrev pub Packed : List ℕ → Pending → List ℕ → Type 0
+Packed v q b = (q .at + (q .have + 7) / 8 ≡ recordLength (length v)) × (take (recordLength (length v)) b ≡ recordOf v)
+
+module _ (v : List ℕ) (p : Pending) (a : List ℕ) (count : Put nothing 11 (length v) (replicate builtBytes 0) p a) where
   -- there is room for the entries of a valid vector
-  pub entries-due : Valid v → length v ≤ 1024 → length a ≡ 1288 → Due v 1 (length v) p (length a)
+  pub entries-due : Valid v → length v ≤ 1024 → length a ≡ builtBytes → Due v 1 (length v) p (length a)
   entries-due valid few e =
       record {
         some-put = omega arith;
@@ -44,8 +52,7 @@ module _ (v : List ℕ) (p : Pending) (a : List ℕ) (count : Put nothing 11 (le
         fits = rw total-one (omega (arith, count .count, total-most (length v) few));
       }
 
-  pub packed : (q : Pending) (b : List ℕ) → 1 ≤ length v → PutEntries v 1 (length v) p a q b
-      → (q .at + (q .have + 7) / 8 ≡ recordLength (length v)) × (take (recordLength (length v)) b ≡ recordOf v)
+  pub packed : (q : Pending) (b : List ℕ) → 1 ≤ length v → PutEntries v 1 (length v) p a q b → Packed v q b
   unfolding recordOf recordLength
   packed q b h entries = (
     omega (arith, held .count, row-length v),

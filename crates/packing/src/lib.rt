@@ -8,6 +8,9 @@ ghost use Rattle.rules.specs.Record.{recordLength, recordOf};
 ghost use Rattle.entry_writer.specs.Entries.{PutEntries, Due};
 use bit_writer::Pending;
 
+// The bytes in which a record is built: those of the longest, and a word behind them.
+const BUILT: usize = 1288;
+
 // Appends the fields of the entries to the bits that are held. Room for a word behind them is wanted.
 fn put_entries(v: &[u16], out: &mut [u8], p: Pending) -> Pending
     requires { ⌜ Due (now v) 1 (length (now v)) p (length (now out)) ⌝ }
@@ -26,7 +29,7 @@ pub fn pack_into(v: &[u16], out: &mut [u8])
     requires { ⌜ Valid (now v) × (length (now v) ≤ 1024) × (recordLength (length (now v)) ≤ length (now out)) ⌝ }
     ensures { λ _. ⌜ now (out .exit) ≡ recordOf (now (v .entry)) ++ drop (recordLength (length (now (v .entry)))) (now (out .entry)) ⌝ }
 {
-    let mut built = [0u8; 1288];
+    let mut built = [0u8; BUILT];
     let none = Pending {
         acc: 0,
         have: 0,

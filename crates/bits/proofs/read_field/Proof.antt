@@ -1,5 +1,4 @@
 -- `bits::read_field` meets its contract: one field, stored (`fieldRead`).
-use native.Mathlib.Omega.{arith}
 use borrow.Author.Needs.{needs}
 use mathlib.Core.Path.{refl}
 use Rattle.bits.specs.Fields.{fieldRead}

@@ -1,11 +1,14 @@
--- `four_entries::four_from` meets its contract: each shift makes room for the next number (`parts-lt`, `four-lt`).
+-- `four_entries::four_from` meets its contract: each shift makes room for the next number (`sizes-of`, `four-lt`).
 use native.Mathlib.Omega.{arith}
 use borrow.Author.Needs.{needs}
 use mathlib.Core.Path.{refl}
 use Rattle.four_entries.specs.Four.{fourOf}
-use Rattle.four_entries.proofs.Four.{each-lt, four-lt, parts-lt}
+use Rattle.four_entries.proofs.Four.{Sizes, sizes-of, four-lt}
 use Rattle.four_entries.proofs.four_from.Statement.{statement}
 use Rattle.four_entries.proofs.four_from.Tie as tie
+
+sizes : (c : tie.Start) → Sizes (c .args .v .now) (c .args .i) (c .args .width)
+sizes c = sizes-of (c .args .v .now) (c .args .i) (c .args .width) (c .pre .0) (c .pre .2)
 
 mul-long : tie.Need-mul-long
 mul-long c = search needs
@@ -29,7 +32,9 @@ long-requires-2 : tie.Need-long-requires-2
 long-requires-2 c κs = search needs
 
 followed-requires : tie.Need-followed-requires
-followed-requires c κs = let a = c .before .before .before .before .before .args in let h = c .before .before .before .before .before .pre .2 in let f = each-lt (a .v .now) (a .i) (a .width) h in let g = parts-lt (a .v .now) (a .i) (a .width) h (omega arith) in (omega arith, rw (c .before .before .long .ensures) (g .0), rw (c .long2 .ensures) (f .1))
+followed-requires c κs =
+    let s = sizes (c .before .before .before .before .before) in
+    (omega arith, rw (c .before .before .long .ensures) (s .by-one), rw (c .long2 .ensures) (s .second))
 
 add-long-2 : tie.Need-add-long-2
 add-long-2 c = search needs
@@ -44,7 +49,11 @@ long-requires-3 : tie.Need-long-requires-3
 long-requires-3 c κs = search needs
 
 followed-requires-2 : tie.Need-followed-requires-2
-followed-requires-2 c κs = let a = c .before .before .before .before .before .before .before .before .args in let h = c .before .before .before .before .before .before .before .before .pre .2 in let f = each-lt (a .v .now) (a .i) (a .width) h in let g = parts-lt (a .v .now) (a .i) (a .width) h (omega arith) in (omega arith, rw (c .before .before .followed .ensures, c .before .before .before .long2 .ensures, c .before .before .before .before .before .long .ensures) (g .1), rw (c .long3 .ensures) (f .2))
+followed-requires-2 c κs =
+    let second = c .before .before .before in
+    let first = second .before .before in
+    let s = sizes (first .before .before .before) in
+    (omega arith, rw (c .before .before .followed .ensures, second .long2 .ensures, first .long .ensures) (s .by-two), rw (c .long3 .ensures) (s .third))
 
 add-long-3 : tie.Need-add-long-3
 add-long-3 c = search needs
@@ -59,14 +68,27 @@ long-requires-4 : tie.Need-long-requires-4
 long-requires-4 c κs = search needs
 
 followed-requires-3 : tie.Need-followed-requires-3
-followed-requires-3 c κs = let a = c .before .before .before .before .before .before .before .before .before .before .before .args in let h = c .before .before .before .before .before .before .before .before .before .before .before .pre .2 in let f = each-lt (a .v .now) (a .i) (a .width) h in let g = parts-lt (a .v .now) (a .i) (a .width) h (omega arith) in (omega arith, rw (c .before .before .followed2 .ensures, c .before .before .before .long3 .ensures, c .before .before .before .before .before .followed .ensures, c .before .before .before .before .before .before .long2 .ensures, c .before .before .before .before .before .before .before .before .long .ensures) (g .2), rw (c .long4 .ensures) (f .3))
+followed-requires-3 c κs =
+    let third = c .before .before .before in
+    let second = third .before .before .before in
+    let first = second .before .before in
+    let s = sizes (first .before .before .before) in (
+      omega arith,
+      rw (c .before .before .followed2 .ensures, third .long3 .ensures, third .before .before .followed .ensures, second .long2 .ensures, first .long .ensures) (s .by-three),
+      rw (c .long4 .ensures) (s .fourth),
+    )
 
 returns : tie.Need-returns
 unfolding fourOf
 returns c =
-    let a = c .before .before .before .before .before .before .before .before .before .before .before .before .args in
-    rw (c .followed3 .ensures, c .before .long4 .ensures, c .before .before .before .followed2 .ensures, c .before .before .before .before .long3 .ensures, c .before .before .before .before .before .before .followed .ensures, c .before .before .before .before .before .before .before .long2 .ensures, c .before .before .before .before .before .before .before .before .before .long .ensures)
-    (refl, four-lt (a .v .now) (a .i) (a .width) (c .before .before .before .before .before .before .before .before .before .before .before .before .pre .2))
+    let fourth = c .before in
+    let third = fourth .before .before .before in
+    let second = third .before .before .before in
+    let first = second .before .before in
+    let start = first .before .before .before in
+    let a = start .args in
+    rw (c .followed3 .ensures, fourth .long4 .ensures, fourth .before .before .followed2 .ensures, third .long3 .ensures, third .before .before .followed .ensures, second .long2 .ensures, first .long .ensures)
+    (refl, four-lt (a .v .now) (a .i) (a .width) (sizes start))
 
 pub four-from-spec : {M : Type 1} → statement M
 four-from-spec =

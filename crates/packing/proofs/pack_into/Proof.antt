@@ -3,9 +3,15 @@ use native.Mathlib.Omega.{arith}
 use borrow.Author.Needs.{needs}
 use mathlib.Core.Path.{_∙_}
 use Rattle.record_laws.specs.Width.{record-length-most}
-use Rattle.packing.proofs.Packing.{entries-due, packed}
+use Rattle.packing.proofs.Packing.{Packed, entries-due, packed}
 use Rattle.packing.proofs.pack_into.Statement.{statement}
 use Rattle.packing.proofs.pack_into.Tie as tie
+
+-- the record is built, once the entries are put
+built : (c : tie.After-put-entries) → Packed (c .before .before .before .before .before .before .before .args .v .now) (c .put-entries .result) (c .put-entries .last .1 .0)
+built c =
+    let valid = c .before .before .before .before .before .before .before .pre .0 in
+    packed _ _ _ (c .before .before .before .put-bits .ensures) _ _ (omega (arith, valid .some-leaf)) (c .put-entries .ensures)
 
 slice-aggregate-put-bits : tie.Need-slice-aggregate-put-bits
 slice-aggregate-put-bits c = search needs
@@ -29,17 +35,23 @@ cast-copy-bytes : tie.Need-cast-copy-bytes
 cast-copy-bytes c = search needs
 
 add-copy-bytes-2 : tie.Need-add-copy-bytes-2
-add-copy-bytes-2 c = omega (arith, packed _ _ _ (c .before .before .before .before .before .before .before .put-bits .ensures) _ _ (omega (arith, c .before .before .before .before .before .before .before .before .before .before .before .pre .0 .some-leaf)) (c .before .before .before .before .put-entries .ensures) .0, record-length-most _ (c .before .before .before .before .before .before .before .before .before .before .before .pre .1))
+add-copy-bytes-2 c =
+    let entries = c .before .before .before .before in
+    omega (arith, built entries .0, record-length-most _ (entries .before .before .before .before .before .before .before .pre .1))
 
 copy-bytes-requires : tie.Need-copy-bytes-requires
-copy-bytes-requires c κs = let e = packed _ _ _ (c .before .before .before .before .before .before .before .before .put-bits .ensures) _ _ (omega (arith, c .before .before .before .before .before .before .before .before .before .before .before .before .pre .0 .some-leaf)) (c .before .before .before .before .before .put-entries .ensures) .0 in let m = record-length-most _ (c .before .before .before .before .before .before .before .before .before .before .before .before .pre .1) in (omega arith, omega arith)
+copy-bytes-requires c κs =
+    let entries = c .before .before .before .before .before in
+    let e = built entries .0 in
+    let m = record-length-most _ (entries .before .before .before .before .before .before .before .pre .1) in
+    (omega arith, omega arith)
 
 same-length : tie.Need-same-length
 same-length c = search needs
 
 returns : tie.Need-returns
 returns c =
-    let e = packed _ _ _ (c .before .before .before .before .before .before .before .before .before .before .before .put-bits .ensures) _ _ (omega (arith, c .before .before .before .before .before .before .before .before .before .before .before .before .before .before .before .pre .0 .some-leaf)) (c .before .before .before .before .before .before .before .before .put-entries .ensures) in
+    let e = built (c .before .before .before .before .before .before .before .before) in
     c .before .before .copy-bytes .ensures ∙ rw (e .0, e .1)
 
 pub pack-into-spec : {M : Type 1} → statement M

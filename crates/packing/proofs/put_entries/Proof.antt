@@ -1,17 +1,28 @@
 -- `packing::put_entries` meets its contract: the entries before the fours, the fours, and those behind them.
 use native.Mathlib.Omega.{arith}
 use borrow.Author.Needs.{needs}
+use mathlib.Core.List.{List}
+use Prim.Native.Nat.{ℕ}
 use lib.ListN.{length}
+use Rattle.bit_writer.specs.declared.Pending.{Pending}
 use Rattle.entry_writer.proofs.Putting.{Ahead, due-fewer, ahead-start, ahead-due, ahead-more, put-then}
 use Rattle.packing.proofs.put_entries.Statement.{statement}
 use Rattle.packing.proofs.put_entries.Tie as tie
 
--- what is due after each of the first two parts
-on-fours : (c : tie.After-put-singles) → Ahead (c .before .before .before .before .before .before .args .v .now) 1 (length (c .before .before .before .before .before .before .args .v .now)) (c .before .before .before .before .before .before .args .out .now) (c .before .before .before .before .before .before .args .p) (c .put-singles .last .1 .1 .1 .0) (c .put-singles .result) (c .before .before .before .lesser .result)
-on-fours c = ahead-more (ahead-start (c .before .before .before .before .before .before .pre)) _ (c .put-singles .result) _ (omega (arith, c .before .before .before .before .before .before .pre .most)) (omega arith) (c .put-singles .kept .1 .1 .1 .0) (c .put-singles .ensures)
+-- what is due when the entries from 1 to m are put
+abbrev Reached : (c : tie.Start) → List ℕ → Pending → ℕ → Type 0
+Reached c out p m = Ahead (c .args .v .now) 1 (length (c .args .v .now)) (c .args .out .now) (c .args .p) out p m
 
-on-rest : (c : tie.After-put-fours) → Ahead (c .before .before .before .before .before .before .before .before .before .before .args .v .now) 1 (length (c .before .before .before .before .before .before .before .before .before .before .args .v .now)) (c .before .before .before .before .before .before .before .before .before .before .args .out .now) (c .before .before .before .before .before .before .before .before .before .before .args .p) (c .put-fours .last .1 .1 .1 .0) (c .put-fours .result) (c .before .before .before .before .before .before .fours-end .result)
-on-rest c = let e = c .before .before .before .before .before .before .fours-end .ensures in ahead-more (on-fours (c .before .before .before .before)) _ (c .put-fours .result) _ (e .0) (e .1) (c .put-fours .kept .1 .1 .1 .0) (c .put-fours .ensures)
+-- and that it is, before the fours and behind them
+on-fours : (c : tie.After-put-singles) → Reached (c .before .before .before .before .before .before) (c .put-singles .last .1 .1 .1 .0) (c .put-singles .result) (c .before .before .before .lesser .result)
+on-fours c =
+    let due = c .before .before .before .before .before .before .pre in
+    ahead-more (ahead-start due) _ (c .put-singles .result) _ (omega (arith, due .most)) (omega arith) (c .put-singles .kept .1 .1 .1 .0) (c .put-singles .ensures)
+
+on-rest : (c : tie.After-put-fours) → Reached (c .before .before .before .before .before .before .before .before .before .before) (c .put-fours .last .1 .1 .1 .0) (c .put-fours .result) (c .before .before .before .before .before .before .fours-end .result)
+on-rest c =
+    let e = c .before .before .before .before .before .before .fours-end .ensures in
+    ahead-more (on-fours (c .before .before .before .before)) _ (c .put-fours .result) _ (e .0) (e .1) (c .put-fours .kept .1 .1 .1 .0) (c .put-fours .ensures)
 
 lesser-requires : tie.Need-lesser-requires
 lesser-requires c κs = search needs

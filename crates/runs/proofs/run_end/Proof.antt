@@ -2,7 +2,7 @@
 use native.Mathlib.Omega.{arith}
 use borrow.Author.Needs.{needs}
 use mathlib.Core.Path.{_∙_}
-use Prim.Native.Nat.{_-_, _≤_}
+use Prim.Native.Nat.{_≤_}
 use Rattle.rules.specs.Record.{width}
 use Rattle.record_laws.specs.Width.{width-least, width-most}
 use Rattle.runs.proofs.Runs.{run-shift, run-small, run-to}

@@ -1,5 +1,4 @@
 -- `words::byte_at` meets its contract: past the end the default 0 is what a list has there.
-use native.Mathlib.Omega.{arith}
 use borrow.Author.Needs.{needs}
 use mathlib.Core.Path.{sym}
 use lib.ListN.{List·getD-eq-default}

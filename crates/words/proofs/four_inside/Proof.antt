@@ -1,5 +1,4 @@
 -- `words::four_inside` meets its contract: the four bytes are the word (`word-four`).
-use native.Mathlib.Omega.{arith}
 use borrow.Author.Needs.{needs}
 use mathlib.Core.Path.{sym, _∙_}
 use Rattle.record_laws.specs.Window.{word-four}
