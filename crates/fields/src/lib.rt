@@ -38,7 +38,7 @@ pub fn read_fields(
     requires { ⌜ (Left (now s) 11 1 n 0 (length (now out)) × Parts first last n × Reading (now s) 11 11 1 (now out)) × FieldInside (now s) (total n) padding (length (now other)) 0 ⌝ }
     ensures { λ _. ⌜ Reading (now (s .entry)) 11 (total n) n (now (out .exit)) × (getD (now (other .exit)) 0 0 ≡ valueAt (now (s .entry)) (total n) padding) ⌝ }
 {
-    let entries = bit_reader::next_field(bit_reader::reading(s), 11, other, 0);
+    let entries = bit_reader::next_field(bit_reader::reading(s), lengths::COUNT_BITS, other, 0);
     let rest = read_entries(entries, first, last, n, out);
     bit_reader::next_field(rest, padding, other, 0);
 }

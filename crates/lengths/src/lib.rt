@@ -5,6 +5,9 @@ ghost use Rattle.rules.specs.Record.{recordLength};
 
 pub mod totals;
 
+/// The bits of the leaf count, with which a record begins.
+pub const COUNT_BITS: u32 = 11;
+
 /// The bytes of a record of n leaves.
 pub fn record_length(n: usize) -> usize
     requires { ⌜ (1 ≤ n) × (n ≤ 1024) ⌝ }

@@ -17,7 +17,7 @@ fn put_entries(v: &[u16], out: &mut [u8], p: Pending) -> Pending
     ensures { λ r. ⌜ PutEntries (now (v .entry)) 1 (length (now (v .entry))) p (now (out .entry)) r (now (out .exit)) ⌝ }
 {
     let n = v.len();
-    let first = numbers::lesser(5, n);
+    let first = numbers::lesser(runs::FIRST_FOUR, n);
     let last = runs::fours_end(first, 0, n);
     let fours = entry_writer::put_singles(v, 1, first, out, p);
     let rest = entry_writer::put_fours(v, first, last, out, fours);
@@ -35,7 +35,7 @@ pub fn pack_into(v: &[u16], out: &mut [u8])
         have: 0,
         at: 0,
     };
-    let count = bit_writer::put_bits(&mut built, none, 11, v.len() as u64);
+    let count = bit_writer::put_bits(&mut built, none, lengths::COUNT_BITS, v.len() as u64);
     let p = put_entries(v, &mut built, count);
     lists::copy_bytes(&built, p.at + ((p.have + 7) / 8) as usize, out);
 }

@@ -4,13 +4,16 @@ ghost use Prim.Native.Nat.{_≤_};
 ghost use lib.ListN.{length, take};
 ghost use Rattle.rules.specs.Record.{recordLength, leafCount, entriesOf, padding, anySet};
 
+// The entries behind the last four: their bits fill up its word.
+const BEHIND: usize = 12;
+
 /// The leaf count that a record begins with.
 pub fn leaf_count(s: &[u8]) -> usize
     requires { ⌜ 2 ≤ length (now s) ⌝ }
     ensures { λ r. ⌜ r ≡ leafCount (now (s .entry)) ⌝ }
 {
     let mut count = [0u16; 1];
-    bit_reader::first_field(s, 11, &mut count);
+    bit_reader::first_field(s, lengths::COUNT_BITS, &mut count);
     count[0] as usize
 }
 
@@ -20,8 +23,8 @@ pub fn read_record(s: &[u8], n: usize, out: &mut [u16]) -> bool
     ensures { λ r. ⌜ (take n (now (out .exit)) ≡ entriesOf n (now (s .entry))) × (r ≡ anySet (padding n (now (s .entry)))) ⌝ }
 {
     out[0] = 0;
-    let first = numbers::lesser(5, n);
-    let last = runs::fours_end(first, 12, n);
+    let first = numbers::lesser(runs::FIRST_FOUR, n);
+    let last = runs::fours_end(first, BEHIND, n);
     let width = (8 * s.len() - lengths::totals::bits_before(n)) as u32;
     let mut rest = [0u16; 1];
     fields::read_fields(s, first, last, n, width, out, &mut rest);

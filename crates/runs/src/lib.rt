@@ -4,6 +4,9 @@ ghost use Prim.Native.Nat.{_+_, _%_, _≤_, _<_};
 ghost use Rattle.rules.specs.Record.{width};
 ghost use Rattle.runs.specs.Runs.{Fours, Run};
 
+/// The first entry of the first four: from it on four entries at a time have one width.
+pub const FIRST_FOUR: usize = 5;
+
 /// As many bits as the number 2(i-1) needs.
 pub fn field_width(i: usize) -> u32
     requires { ⌜ (1 ≤ i) × (i ≤ 1024) ⌝ }

@@ -4,6 +4,13 @@ ghost use Prim.Native.Nat.{_+_, _*_, _%_, _≤_, _<_, _^_};
 ghost use lib.ListN.{length, getD};
 ghost use Rattle.record_laws.specs.Window.{wordAt};
 
+// What the lowest bit counts of a byte that stands before two, three and four others.
+const TWO_BYTES: u64 = 65536;
+
+const THREE_BYTES: u64 = 16777216;
+
+const FOUR_BYTES: u64 = 4294967296;
+
 fn wide(b: u8) -> u64
     ensures { λ r. ⌜ (r ≡ b) × (r < 256) ⌝ }
 {
@@ -22,7 +29,7 @@ fn joined(a: u64, b: u64, c: u64, d: u64) -> u64
     requires { ⌜ (a < 256) × (b < 256) × (c < 256) × (d < 256) ⌝ }
     ensures { λ r. ⌜ r ≡ ((a * 256 + b) * 256 + c) * 256 + d ⌝ }
 {
-    a * 16777216 + b * 65536 + c * 256 + d
+    a * THREE_BYTES + b * TWO_BYTES + c * 256 + d
 }
 
 // Four bytes from q on as one number.
@@ -54,7 +61,7 @@ pub fn eight_inside(s: &[u8], q: usize) -> u64
     requires { ⌜ q + 8 ≤ length (now s) ⌝ }
     ensures { λ r. ⌜ r ≡ wordAt 8 (now (s .entry)) q ⌝ }
 {
-    four_inside(s, q) * 4294967296 + four_inside(s, q + 4)
+    four_inside(s, q) * FOUR_BYTES + four_inside(s, q + 4)
 }
 
 /// The low `width` bits of a word.
