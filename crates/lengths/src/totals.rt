@@ -1,10 +1,7 @@
 // The stored table of bit totals. What is above cites L(n), never the table.
-ghost use mathlib.Core.Path.{_≡_};
-ghost use Prim.Native.Nat.{_≤_};
-ghost use Rattle.rules.specs.Record.{total};
 
-// L(1) to L(1024): the bits of a record of n leaves before padding.
-const TOTALS: [u16; 1024] = [
+/// L(1) to L(1024): the bits of a record of n leaves before padding.
+pub const TOTALS: [u16; 1024] = [
     11,
     11,
     13,
@@ -1030,11 +1027,3 @@ const TOTALS: [u16; 1024] = [
     10229,
     10240,
 ];
-
-/// L(n).
-pub fn bits_before(n: usize) -> usize
-    requires { ⌜ (1 ≤ n) × (n ≤ 1024) ⌝ }
-    ensures { λ r. ⌜ r ≡ total n ⌝ }
-{
-    numbers::wide(TOTALS[n - 1])
-}

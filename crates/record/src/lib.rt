@@ -25,7 +25,7 @@ pub fn read_record(s: &[u8], n: usize, out: &mut [u16]) -> bool
     out[0] = 0;
     let first = numbers::lesser(runs::FIRST_FOUR, n);
     let last = runs::fours_end(first, BEHIND, n);
-    let width = (8 * s.len() - lengths::totals::bits_before(n)) as u32;
+    let width = (8 * s.len() - lengths::bits_before(n)) as u32;
     let mut rest = [0u16; 1];
     fields::read_fields(s, first, last, n, width, out, &mut rest);
     rest[0] != 0

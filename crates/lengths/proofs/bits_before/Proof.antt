@@ -5,8 +5,8 @@ use mathlib.Core.Path.{_≡_, ap, _∙_}
 use Prim.Native.Nat.{_+_, _-_}
 use Rattle.rules.specs.Record.{total}
 use Rattle.lengths.proofs.Table.{steps, steps-at}
-use Rattle.lengths.proofs.totals.bits_before.Statement.{statement}
-use Rattle.lengths.proofs.totals.bits_before.Tie as tie
+use Rattle.lengths.proofs.bits_before.Statement.{statement}
+use Rattle.lengths.proofs.bits_before.Tie as tie
 
 sub-wide : tie.Need-sub-wide
 sub-wide c = search needs
