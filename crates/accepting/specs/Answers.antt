@@ -1,11 +1,11 @@
 -- Two answers that read alike are the same answer, so that a promise about what an answer reads as fixes the answer.
--- Main results: done-same, done-not-refused, reads-unique.
+-- Main results: done-same, done-not-refused, made-same, made-not-refuses, reads-unique.
 use mathlib.Core.Bool.{cond}
 use mathlib.Core.Path.{_≡_, refl, sym, ap, _∙_}
 use Prim.Native.Nat.{ℕ}
 use native.Mathlib.Omega.{arith}
 use lib.Dec.{eqb}
-use Rattle.rules.specs.Answer.{Outcome, done, refused, numberOf, reads}
+use Rattle.rules.specs.Answer.{Outcome, done, refused, numberOf, reads, made, refuses}
 use Rattle.rules.specs.declared.Kind.{Kind}
 use Rattle.rules.specs.declared.Kind.the-variants.{LeafCount, InputLength, Room, Entry, Parent, Child, NamedBefore, Grammar, Label, Padding, Permutation}
 use Rattle.rules.specs.declared.Answer.{Answer}
@@ -17,6 +17,13 @@ done-same e = cc
 
 pub done-not-refused : (n number place : ℕ) → done n ≡ refused number place → ⊥
 done-not-refused n number place e = let z : _≡_ {A = ℕ} 0 1 = cc in omega arith
+
+-- and so is what a call makes
+pub made-same : {W : Type 0} {x y : W} → made x ≡ made y → x ≡ y
+made-same e = cc
+
+pub made-not-refuses : {W : Type 0} {x : W} {number place : ℕ} → made x ≡ refuses number place → ⊥
+made-not-refuses e = let z : _≡_ {A = ℕ} 0 1 = cc in omega arith
 
 -- the kind of a number
 kindOf : ℕ → Kind

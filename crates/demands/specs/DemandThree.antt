@@ -1,43 +1,40 @@
 -- Demand 3: two accepted inputs, in whatever notation, lead to the same vector exactly when they have the same clades, each worked out in its own
 -- notation; and every rooted binary tree with leaves 0 to n-1 is the tree of an accepted vector.
 -- Main definition: CladeOf (Input and Leads are in Leads). Main results: led, demand-three, every-tree-has-a-vector.
-use mathlib.Core.Bool.{Bool, true, false}
+use mathlib.Core.Bool.{Bool}
 use mathlib.Core.List.{List, []}
-use mathlib.Core.Logic.{_≢_, _⊎_, inl, inr, _↔_}
+use mathlib.Core.Logic.{_⊎_, inl, inr, _↔_}
 use mathlib.Core.Option.{none}
 use mathlib.Core.Path.{_≡_, refl, sym, _∙_, subst}
 use Prim.Native.Nat.{ℕ, _-_, _*_, _≤_}
 use native.Mathlib.Omega.{arith}
-use lib.Dec.{ltb}
 use lib.ListN.{length}
-use borrow.Author.Tests.{ltb-true, ltb-false}
 use Rattle.rules.specs.Tree.{Tree, treeOf, LeavesBelow, Clade, SameClades}
 use Rattle.rules.specs.Order.{vectorOf}
 use Rattle.rules.specs.Table.{rowsOf, tableFault, tableTree, TableClade}
 use Rattle.rules.specs.Newick.{Text, labelsOf, labelFault}
-use Rattle.rules.specs.Record.{recordLength, leafCount, entriesOf, anySet, padding}
+use Rattle.rules.specs.Record.{leafCount, entriesOf}
 use Rattle.rules.specs.Answer.{Made, made}
 use Rattle.rules.specs.CallCheck.{check}
 use Rattle.rules.specs.CallFromTable.{fromTable}
 use Rattle.rules.specs.CallFromNewick.{FromText, too-long, breaks, reads-as, fromLabels}
-use Rattle.rules.specs.CallUnpack.{unpack}
 use Rattle.table_laws.specs.Flat.{rowsOf-length}
 use Rattle.rows.specs.Forest.{rows-make-a-tree}
 use Rattle.rows.specs.Clades.{rows-clades}
-use Rattle.record_laws.specs.Inverse.{length-entries}
+use Rattle.record_laws.specs.FromRecord.{only-accepted, unpacked-vector}
 use Rattle.grammar.specs.Complete.{text-unique}
 use Rattle.grammar.specs.Faults.{no-fault-leaves}
 use Rattle.searching.specs.First.{FirstFound, first-at, nowhere}
+use Rattle.accepting.specs.Answers.{made-not-refuses}
 use Rattle.accepting.specs.FromTable.{rows-accepted}
 use Rattle.laws.specs.OneToOne.{every-tree, same-clades-same-vector}
-use Rattle.demands.specs.Conditions.{CountWrong, CountRight, WithinBounds, First, Above, Unfit, labelNumbers, labelPlace}
-use Rattle.demands.specs.FirstPlace.{label-found, padding-found}
+use Rattle.demands.specs.Conditions.{CountWrong, CountRight, Unfit, labelNumbers, labelPlace}
+use Rattle.demands.specs.FirstPlace.{label-found}
 use Rattle.demands.specs.FirstWrongRow.{RowFound, first-row, row-found}
-use Rattle.demands.specs.Cases.{count-cases, equal-cases, above-cases}
-use Rattle.demands.specs.Law.{Accepted, made-accepted, made-not-refuses}
+use Rattle.demands.specs.Cases.{count-cases, equal-cases}
+use Rattle.demands.specs.Law.{Accepted, made-accepted}
 use Rattle.demands.specs.LawFromTable.{TableRefused, table-1, table-2, table-row, lawful-from-table}
 use Rattle.demands.specs.LawFromNewick.{TextRefused, text-1, text-9, labels-fit, lawful-from-newick}
-use Rattle.demands.specs.LawUnpack.{RecordRefused, record-short, record-1, record-2, record-4, record-10, entries-made, lawful-unpack}
 use Rattle.demands.specs.Leads.{Input, vector, table, text, packed, Leads}
 use Rattle.demands.specs.DemandTwo.{Vector, accepted-exactly}
 
@@ -125,33 +122,7 @@ led-text s w h =
 
 -- a record that is accepted: its entries
 led-packed : (s w : List ℕ) → Leads (packed s) w → Led (packed s) w
-unfolding unpack
-led-packed s w h =
-    go (ltb (length s) 2) refl (count-cases (leafCount s)) (equal-cases (length s) (recordLength (leafCount s)))
-    (above-cases (entriesOf (leafCount s) s)) (anySet (padding (leafCount s) s)) refl
-  where
-    right : Accepted (RecordRefused s)
-    right = made-accepted _ _ _ (lawful-unpack s) (unpack s) refl w h
-
-    go : (b : Bool) → ltb (length s) 2 ≡ b → CountWrong (leafCount s) ⊎ CountRight (leafCount s)
-        → (length s ≢ recordLength (leafCount s)) ⊎ (length s ≡ recordLength (leafCount s))
-        → ((i : ℕ) × First (Above (entriesOf (leafCount s) s)) i) ⊎ WithinBounds (entriesOf (leafCount s) s)
-        → (d : Bool) → anySet (padding (leafCount s) s) ≡ d → Led (packed s) w
-    go true q c l a d e = absurd (right 2 2 (record-short (ltb-true (length s) 2 q)))
-    go false q (inl c) l a d e = absurd (right 1 0 (record-1 (ltb-false (length s) 2 q) c))
-    go false q (inr c) (inl l) a d e = absurd (right 2 (recordLength (leafCount s)) (record-2 (ltb-false (length s) 2 q) c l))
-    go false q (inr c) (inr l) (inl a) d e = absurd (right 4 (a .0) (record-4 (ltb-false (length s) 2 q) c l (a .1)))
-    go false q (inr c) (inr l) (inr b) true e =
-        absurd (right 10 (length s - 1) (record-10 (ltb-false (length s) 2 q) c l b (padding-found (leafCount s) s .0 e)))
-    go false q (inr c) (inr l) (inr b) false e =
-        let z : made w ≡ made (entriesOf (leafCount s) s) = sym h ∙ entries-made s (ltb-false (length s) 2 q) c l b e in
-        let k : w ≡ entriesOf (leafCount s) s = cc in
-        let n = length-entries (leafCount s) s in
-        rw k
-        (record {
-          vector-of = record { valid = record { some-leaf = rw n (c .0); bounded = b }; few = rw n (c .1) };
-          clades = λ c. (λ x. x, λ x. x);
-        })
+led-packed s w h = record { vector-of = unpacked-vector s w h; clades = λ c. rw (only-accepted s w h .1) (λ x. x, λ x. x) }
 
 pub led : (a : Input) (v : List ℕ) → Leads a v → Led a v
 led (vector u) v h = led-vector u v h

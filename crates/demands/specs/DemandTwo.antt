@@ -85,7 +85,7 @@ text-back v W =
     subst (FromText (textOf (treeOf v))) (labels-fit (textOf (treeOf v)) (treeOf v) count fit ∙ ap made (vector-again v (W .valid))) (reads-as (treeOf v) short T)
 
 pub record-back : (v : List ℕ) → Vector v → unpack (recordOf v) ≡ made v
-record-back v W = unpack-record v (W .valid) (W .few)
+record-back v W = unpack-record v W
 
 -- where there is room a call is done and says how many elements it wrote; its buffers hold them, and behind them what they held
 abbrev pub Writes : (c : Public) → the c .Written → Type 0

@@ -14,7 +14,7 @@ use Rattle.rules.specs.declared.Answer.{Answer}
 use Rattle.rules.specs.declared.Answer.the-variants.{Done, Refused}
 use Rattle.rules.specs.Answer.{done, refused, numberOf, reads, Making, made, refuses}
 use Rattle.rules.specs.Promise.{Buffers, Call, makes, answers, holds, Keeps}
-use Rattle.accepting.specs.Answers.{done-same, done-not-refused, reads-unique}
+use Rattle.accepting.specs.Answers.{done-same, done-not-refused, made-not-refuses, reads-unique}
 
 -- nothing is wrong with the input
 abbrev pub Accepted : (ℕ → ℕ → Type 0) → Type 0
@@ -58,9 +58,6 @@ room-cases k room = go (leb k room) refl
 
 refused-same : {k p l q : ℕ} → refused k p ≡ refused l q → (k ≡ l) × (p ≡ q)
 refused-same e = (cc, cc)
-
-pub made-not-refuses : {W : Type 0} {x : W} {k p : ℕ} → made x ≡ refuses k p → ⊥
-made-not-refuses e = let z : _≡_ {A = ℕ} 0 1 = cc in omega arith
 
 module _ {L W : Type 0} (c : Call L W) (Wrong : ℕ → ℕ → Type 0) (wanted : ℕ) (T : Lawful c Wrong wanted) where
   -- the refusal for room, last

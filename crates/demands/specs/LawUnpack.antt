@@ -1,27 +1,23 @@
 -- Unpack: when it refuses, and that it writes an element a leaf.
--- Main definition: RecordRefused. Main results: lawful-unpack, entries-made.
-use mathlib.Core.Bool.{Bool, true, false, cond}
+-- Main definition: RecordRefused. Main result: lawful-unpack.
+use mathlib.Core.Bool.{Bool, true, false}
 use mathlib.Core.List.{List}
 use mathlib.Core.Logic.{_≢_, _⊎_, inl, inr}
-use mathlib.Core.Option.{Option}
-use mathlib.Core.Path.{_≡_, refl, ap, _∙_}
+use mathlib.Core.Path.{_≡_, refl, _∙_}
 use Prim.Native.Nat.{ℕ, _-_, _≤_, _<_}
 use native.Mathlib.Omega.{arith}
 use lib.Dec.{ltb}
 use lib.ListN.{length}
-use borrow.Author.Tests.{ltb-true, ltb-false, lt-ltb, le-ltb}
+use borrow.Author.Tests.{ltb-true, ltb-false}
 use Rattle.rules.specs.declared.Kind.the-variants.{LeafCount, InputLength, Entry, Padding}
-use Rattle.rules.specs.Vector.{fault}
 use Rattle.rules.specs.Record.{recordLength, leafCount, entriesOf, padding, anySet}
-use Rattle.rules.specs.Answer.{numberOf, Made, made, refuses}
-use Rattle.rules.specs.Guards.{refuseIf, refuseAt, refuseCount, refuseLength}
+use Rattle.rules.specs.Answer.{numberOf, made, refuses}
 use Rattle.rules.specs.Promise.{list}
-use Rattle.rules.specs.CallUnpack.{fromEntries, unpack, unpack-call}
-use Rattle.record_laws.specs.Inverse.{length-entries}
-use Rattle.accepting.specs.Guards.{wrong-length, right-length}
+use Rattle.rules.specs.CallUnpack.{unpack, unpack-call}
+use Rattle.record_laws.specs.FromRecord.{Headed, Accepted, length-entries, under-two-bytes, counted, wrong-record, entry-refused, padding-refused, record-accepted}
 use Rattle.demands.specs.Conditions.{First, CountWrong, CountRight, Above, WithinBounds, PaddingSet}
 use Rattle.demands.specs.FirstPlace.{padding-found}
-use Rattle.demands.specs.Cases.{count-cases, count-given, count-passes, equal-cases, above-cases, above-given, within-given}
+use Rattle.demands.specs.Cases.{count-cases, count-given, equal-cases, above-cases, above-given, within-given}
 use Rattle.demands.specs.Law.{OfInput, Settled, Lawful, lawful-made}
 
 -- "Unpacking: 2 (under 2 bytes, place 2), 1, 2 (not the record's byte length), 4, 10"; the place of 10 is the last byte's number
@@ -36,7 +32,7 @@ pub data RecordRefused (s : List ℕ) : ℕ → ℕ → Type 0 where
 
 -- what is made is settled by these
 settled-unpack : (s : List ℕ) → Settled length 3 (RecordRefused s) (leafCount s) (unpack s)
-unfolding unpack refuseIf fromEntries refuseAt numberOf
+unfolding numberOf
 settled-unpack s = record {
   of-input = kinds;
   given = refused-so;
@@ -49,15 +45,6 @@ settled-unpack s = record {
     entries : List ℕ
     entries = entriesOf (leafCount s) s
 
-    last : Made
-    last = cond (anySet (padding (leafCount s) s)) (refuses 10 (length s - 1)) (made (entriesOf (leafCount s) s))
-
-    inner : Made
-    inner = refuseLength (recordLength (leafCount s)) (length s) (refuseAt 4 (fault 0 (entriesOf (leafCount s) s)) last)
-
-    whole : Made
-    whole = cond (ltb (length s) 2) (refuses 2 2) (refuseCount (leafCount s) inner)
-
     kinds : (k p : ℕ) → RecordRefused s k p → OfInput 3 k
     kinds k p (record-short h) = (InputLength, refl, omega arith)
     kinds k p (record-1 h c) = (LeafCount, refl, omega arith)
@@ -65,30 +52,24 @@ settled-unpack s = record {
     kinds k p (record-4 h c l f) = (Entry, refl, omega arith)
     kinds k p (record-10 h c l w b) = (Padding, refl, omega arith)
 
-    long : 2 ≤ length s → whole ≡ refuseCount (leafCount s) inner
-    long h = rw (le-ltb (length s) 2 h)
+    headed : 2 ≤ length s → CountRight (leafCount s) → length s ≡ recordLength (leafCount s) → Headed s (leafCount s)
+    headed h c l = record { two-bytes = h; count = refl; some-leaf = c .0; few = c .1; whole = l }
 
-    to-entries : 2 ≤ length s → CountRight (leafCount s) → length s ≡ recordLength (leafCount s)
-        → whole ≡ refuseAt 4 (fault 0 (entriesOf (leafCount s) s)) last
-    to-entries h c l = long h ∙ count-passes (leafCount s) inner c ∙ right-length (recordLength (leafCount s)) (length s) _ l
+    refused-so : (k p : ℕ) → RecordRefused s k p → unpack s ≡ refuses k p
+    refused-so k p (record-short h) = under-two-bytes s h
+    refused-so k p (record-1 h c) = counted s (leafCount s) h refl ∙ count-given (leafCount s) _ c
+    refused-so k p (record-2 h c l) = wrong-record s (leafCount s) h refl (c .0) (c .1) l
+    refused-so k p (record-4 {i} h c l f) = entry-refused s (leafCount s) i (headed h c l) (above-given (entriesOf (leafCount s) s) i f)
+    refused-so k p (record-10 h c l w b) =
+        padding-refused s (leafCount s) (headed h c l) (within-given (entriesOf (leafCount s) s) w) (padding-found (leafCount s) s .1 b)
 
-    to-padding : 2 ≤ length s → CountRight (leafCount s) → length s ≡ recordLength (leafCount s) → WithinBounds (entriesOf (leafCount s) s) → whole ≡ last
-    to-padding h c l w = to-entries h c l ∙ ap (λ (o : Option ℕ). refuseAt 4 o last) (within-given (entriesOf (leafCount s) s) w)
-
-    set : PaddingSet (leafCount s) s → last ≡ refuses 10 (length s - 1)
-    set b = rw (padding-found (leafCount s) s .1 b)
-
-    refused-so : (k p : ℕ) → RecordRefused s k p → whole ≡ refuses k p
-    refused-so k p (record-short h) = rw (lt-ltb (length s) 2 h)
-    refused-so k p (record-1 h c) = long h ∙ count-given (leafCount s) inner c
-    refused-so k p (record-2 h c l) = long h ∙ count-passes (leafCount s) inner c ∙ wrong-length (recordLength (leafCount s)) (length s) _ l
-    refused-so k p (record-4 {i} h c l f) =
-        to-entries h c l ∙ ap (λ (o : Option ℕ). refuseAt 4 o last) (above-given (entriesOf (leafCount s) s) i f)
-    refused-so k p (record-10 h c l w b) = to-padding h c l w ∙ set b
+    accepted : 2 ≤ length s → CountRight (leafCount s) → length s ≡ recordLength (leafCount s) → WithinBounds (entriesOf (leafCount s) s)
+        → anySet (padding (leafCount s) s) ≡ false → Accepted s (leafCount s)
+    accepted h c l w e = record { headed = headed h c l; within = within-given (entriesOf (leafCount s) s) w; unset = e }
 
     go : (b : Bool) → ltb (length s) 2 ≡ b → CountWrong n ⊎ CountRight n → (length s ≢ recordLength n) ⊎ (length s ≡ recordLength n)
         → ((i : ℕ) × First (Above entries) i) ⊎ WithinBounds entries → (d : Bool) → anySet (padding n s) ≡ d
-        → ((k : ℕ) × (p : ℕ) × RecordRefused s k p) ⊎ ((ys : List ℕ) × (whole ≡ made ys) × (length ys ≡ leafCount s))
+        → ((k : ℕ) × (p : ℕ) × RecordRefused s k p) ⊎ ((ys : List ℕ) × (unpack s ≡ made ys) × (length ys ≡ leafCount s))
     go true q c l a d e = inl (2, 2, record-short (ltb-true (length s) 2 q))
     go false q (inl c) l a d e = inl (1, 0, record-1 (ltb-false (length s) 2 q) c)
     go false q (inr c) (inl l) a d e = inl (2, recordLength n, record-2 (ltb-false (length s) 2 q) c l)
@@ -96,18 +77,7 @@ settled-unpack s = record {
     go false q (inr c) (inr l) (inr w) true e =
         inl (10, length s - 1, record-10 (ltb-false (length s) 2 q) c l w (padding-found (leafCount s) s .0 e))
     go false q (inr c) (inr l) (inr w) false e =
-        let z : last ≡ made (entriesOf (leafCount s) s) = rw e in
-        inr (entries, to-padding (ltb-false (length s) 2 q) c l w ∙ z, length-entries (leafCount s) s)
-
--- a record with nothing wrong makes its entries
-pub entries-made : (s : List ℕ) → 2 ≤ length s → CountRight (leafCount s) → length s ≡ recordLength (leafCount s)
-    → WithinBounds (entriesOf (leafCount s) s) → anySet (padding (leafCount s) s) ≡ false → unpack s ≡ made (entriesOf (leafCount s) s)
-unfolding unpack refuseIf fromEntries refuseAt
-entries-made s h c l w e =
-    rw (le-ltb (length s) 2 h)
-    (count-passes (leafCount s) _ c
-    ∙ right-length (recordLength (leafCount s)) (length s) _ l
-    ∙ rw (within-given (entriesOf (leafCount s) s) w, e) refl)
+        inr (entries, record-accepted s (leafCount s) (accepted (ltb-false (length s) 2 q) c l w e), length-entries (leafCount s) s)
 
 pub lawful-unpack : (s : List ℕ) → Lawful (unpack-call s) (RecordRefused s) (leafCount s)
 lawful-unpack s = lawful-made list (unpack s) (RecordRefused s) (leafCount s) (settled-unpack s)

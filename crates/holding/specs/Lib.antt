@@ -1,3 +1,3 @@
 pub mod Wanted
-pub mod Held
-pub mod Turn
+pub mod RecordBytes
+pub mod AnswerLine

@@ -10,7 +10,7 @@ pub fn bytes_wanted(s: &[u8]) -> usize
     if s.len() < 2 {
         return 2;
     }
-    let leaves = record::leaf_count(s);
+    let leaves = lengths::leaf_count(s);
     if leaves == 0 {
         return 2;
     }

@@ -1,7 +1,8 @@
-// The length of a record, in bits before padding and in bytes.
+// What a record says of itself before its entries are read: its leaf count, and from that its length, in bits before padding and in bytes.
 ghost use mathlib.Core.Path.{_≡_};
 ghost use Prim.Native.Nat.{_≤_};
-ghost use Rattle.rules.specs.Record.{total, recordLength};
+ghost use lib.ListN.{length};
+ghost use Rattle.rules.specs.Record.{total, recordLength, leafCount};
 
 pub mod totals;
 
@@ -22,4 +23,14 @@ pub fn record_length(n: usize) -> usize
     ensures { λ r. ⌜ r ≡ recordLength n ⌝ }
 {
     (bits_before(n) + 7) / 8
+}
+
+/// The leaf count that a record begins with.
+pub fn leaf_count(s: &[u8]) -> usize
+    requires { ⌜ 2 ≤ length (now s) ⌝ }
+    ensures { λ r. ⌜ r ≡ leafCount (now (s .entry)) ⌝ }
+{
+    let mut count = [0u16; 1];
+    bit_reader::first_field(s, COUNT_BITS, &mut count);
+    count[0] as usize
 }

@@ -1,21 +1,11 @@
-// A record that is read: its leaf count, its entries and its padding.
+// A record that is read: its entries and its padding.
 ghost use mathlib.Core.Path.{_≡_};
 ghost use Prim.Native.Nat.{_≤_};
 ghost use lib.ListN.{length, take};
-ghost use Rattle.rules.specs.Record.{recordLength, leafCount, entriesOf, padding, anySet};
+ghost use Rattle.rules.specs.Record.{recordLength, entriesOf, padding, anySet};
 
 // The entries behind the last four: their bits fill up its word.
 const BEHIND: usize = 12;
-
-/// The leaf count that a record begins with.
-pub fn leaf_count(s: &[u8]) -> usize
-    requires { ⌜ 2 ≤ length (now s) ⌝ }
-    ensures { λ r. ⌜ r ≡ leafCount (now (s .entry)) ⌝ }
-{
-    let mut count = [0u16; 1];
-    bit_reader::first_field(s, lengths::COUNT_BITS, &mut count);
-    count[0] as usize
-}
 
 /// Reads the entries of a record of n leaves into the front of `out`, and says whether a padding bit is set.
 pub fn read_record(s: &[u8], n: usize, out: &mut [u16]) -> bool

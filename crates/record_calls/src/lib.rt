@@ -1,8 +1,9 @@
 // The public calls between a vector and a packed record.
+use answering::hand_out;
 use answering::refuse;
 use rules::Answer;
 use rules::Kind;
-use unpacking::Held;
+use unpacking::Unpacked;
 use vector_calls::check;
 ghost use Rattle.rules.specs.Promise.{Keeps};
 ghost use Rattle.rules.specs.CallPack.{pack-call};
@@ -29,30 +30,12 @@ pub fn pack(v: &[u16], out: &mut [u8]) -> Answer
 pub fn unpack(s: &[u8], out: &mut [u16]) -> Answer
     ensures { λ r. ⌜ Keeps (unpack-call (now (s .entry))) (now (out .entry)) r (now (out .exit)) ⌝ }
 {
-    if s.len() < 2 {
-        return refuse(Kind::InputLength, 2);
-    }
-    let n = record::leaf_count(s);
-    if n == 0 {
-        return refuse(Kind::LeafCount, 0);
-    }
-    if 1024 < n {
-        return refuse(Kind::LeafCount, 0);
-    }
-    let wanted = lengths::record_length(n);
-    if s.len() != wanted {
-        return refuse(Kind::InputLength, wanted);
-    }
     let mut vector = [0u16; 1024];
-    match unpacking::entries_of(s, n, &mut vector) {
-        Held::Above(i) => refuse(Kind::Entry, i),
-        Held::Padding => refuse(Kind::Padding, wanted - 1),
-        Held::Entries => {
-            if out.len() < n {
-                return refuse(Kind::Room, n);
-            }
-            lists::copy_numbers(&vector, n, out);
-            Answer::Done(n)
-        }
+    match unpacking::read_vector(s, &mut vector) {
+        Unpacked::Length(wanted) => refuse(Kind::InputLength, wanted),
+        Unpacked::LeafCount => refuse(Kind::LeafCount, 0),
+        Unpacked::Entry(i) => refuse(Kind::Entry, i),
+        Unpacked::Padding(place) => refuse(Kind::Padding, place),
+        Unpacked::Entries(n) => hand_out(&vector, n, out),
     }
 }

@@ -4,9 +4,8 @@ use mathlib.Core.Path.{_≡_, refl, sym, ap, ap₂, _∙_}
 use mathlib.Core.List.{List, [], _∷_, _++_, append-assoc}
 use Prim.Native.Nat.{ℕ, zero, suc, _+_, _-_, _*_, _/_, _%_, _^_, _≤_, _<_}
 use native.Mathlib.Nat.{zero-add}
-use native.Mathlib.Numerals.{add-one}
 use native.Mathlib.Omega.{arith}
-use lib.ListN.{length, take, drop, getD, replicate, length-append, length-take, length-drop, length-replicate}
+use lib.ListN.{length, take, drop, replicate, length-append, length-take, length-drop, length-replicate}
 use lib.Seq.{drop-drop, drop-append-seam, take-append-le, drop-append-le, drop-nil, take-at, drop-at}
 use Rattle.rules.specs.Record.{Bits, field, number, bytesOf, bitsOf}
 use Rattle.record_laws.specs.Number.{AreBits, are-append, are-take, are-drop, are-zeros, are-field, length-field, number-lt, number-of-field, number-append, number-zeros, number-part, field-of}

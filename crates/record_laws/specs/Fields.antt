@@ -2,11 +2,11 @@
 -- Main definitions: entriesFrom. Main results: fields-snoc, length-fields, field-in-row, entries-of-fields, fields-of-entries.
 use mathlib.Core.Path.{_≡_, refl, sym, ap, ap₂, _∙_}
 use mathlib.Core.List.{List, [], _∷_, _++_, append-assoc, append-nil}
-use Prim.Native.Nat.{ℕ, zero, suc, _+_, _-_, _*_, _/_, _%_, _^_, _≤_, _<_}
-use native.Mathlib.Nat.{zero-add, add-zero, add-suc, suc-add}
+use Prim.Native.Nat.{ℕ, zero, suc, _+_, _-_, _^_, _≤_, _<_}
+use native.Mathlib.Nat.{zero-add, add-zero}
 use native.Mathlib.Numerals.{add-one}
 use native.Mathlib.Omega.{arith}
-use lib.ListN.{length, take, drop, getD, replicate, length-append, length-take, length-drop}
+use lib.ListN.{length, take, drop, getD, length-append, length-take, length-drop}
 use lib.Seq.{drop-drop, drop-at, take-at, drop-append-add, take-add, take-suc, split-at, ext-getD}
 use Rattle.rules.specs.Order.{listed}
 use Rattle.rules.specs.Record.{Bits, width, total, field, number, fields, bitsOf, entryIn, entriesOf}

@@ -3,4 +3,5 @@ pub mod Bytes
 pub mod Window
 pub mod Width
 pub mod Fields
+pub mod FromRecord
 pub mod Inverse

@@ -1,14 +1,14 @@
 -- Bits in a row and the number they stand for, most significant first: one law over the width.
 -- Main definitions: AreBits. Main results: number-append, number-field, field-joined, field-number, number-part.
 use mathlib.Core.Path.{_≡_, refl, sym, ap, ap₂, _∙_}
-use mathlib.Core.List.{List, [], _∷_, _++_}
+use mathlib.Core.List.{[], _∷_, _++_}
 use Prim.Native.Nat.{ℕ, zero, suc, _+_, _-_, _*_, _/_, _%_, _^_, _≤_, _<_}
 use native.Mathlib.Nat.{le-trans, suc-mul, mul-le-mul-right, mod-lt, mod-one, zero-add, add-comm, pow-suc, add-mul, mul-assoc, mod-eq-of-lt}
 use native.Mathlib.Numerals.{add-one}
 use native.Mathlib.Omega.{arith}
 use lib.Dec.{lit<}
 use lib.ListN.{length, take, drop, replicate, length-append, length-take, length-drop, take-append-drop}
-use lib.Pow.{pow-pos, pow-add, shr-shr, mod-pow-add, high, low, shl-lt}
+use lib.Pow.{pow-add, mod-pow-add, high, low}
 use Rattle.rules.specs.Record.{Bits, field, number, numberFrom}
 
 -- each of the bits is 0 or 1

@@ -1,6 +1,6 @@
 -- How many bits a number needs, the width of an entry's field, and the totals of bits.
 -- Main results: needed-lt, needed-unique, needed-leading, width-fits, width-run, total-one, total-least, total-last, record-length-most.
-use mathlib.Core.Path.{_≡_, refl, sym, ap, _∙_}
+use mathlib.Core.Path.{_≡_, refl, ap, _∙_}
 use mathlib.Core.Bool.{Bool, true, false}
 use Prim.Native.Nat.{ℕ, zero, suc, _+_, _-_, _*_, _/_, _%_, _^_, _≤_, _<_, max}
 use native.Mathlib.Nat.{pow-suc, add-zero, add-suc, le-antisymm}

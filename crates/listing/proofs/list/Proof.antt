@@ -3,7 +3,7 @@ use borrow.Author.Needs.{needs}
 use Prim.Native.Nat.{_≤_}
 use mathlib.Core.Path.{_≡_}
 use lib.ListN.{length}
-use Rattle.holding.specs.Turn.{Accepted, accepted}
+use Rattle.holding.specs.AnswerLine.{VectorFirst, vector-first}
 use Rattle.io.proofs.Counting.{front}
 use Rattle.listing_line.specs.Longest.{line-fits}
 use Rattle.listing.proofs.list.Statement.{statement}
@@ -24,15 +24,15 @@ call c = c .before .before .before .before
 abbrev turn : tie.After-given Inv-loop μ-loop → tie.At-loop Inv-loop μ-loop
 turn c = call c .before .before .before .before .before .before .before .before .before
 
--- the vector of the bytes held
-here : (c : tie.After-given Inv-loop μ-loop) → Accepted (call c .unpack .last .1 .0) (c .given .given .0 .0)
-here c = accepted _ (turn c .loop .inv .4) (call c .unpack .ensures) (c .given .given .1)
+-- the vector of the record's bytes
+here : (c : tie.After-given Inv-loop μ-loop) → VectorFirst (call c .unpack .last .1 .0) (c .given .given .0 .0)
+here c = vector-first _ (turn c .loop .inv .4) (call c .unpack .ensures) (c .given .given .1)
 
 -- its line is within the buffer
 written : (c : tie.After-write-line Inv-loop μ-loop) → c .write-line .result ≤ length (c .write-line .last .1 .0)
 written c =
     let done = c .before .before .before .before in
-    let P = here done .packs in
+    let P = here done .accepted in
     line-fits _ (P .valid) (P .few) (turn done .loop .inv .5) (c .write-line .ensures)
 
 most-records-requires : tie.Need-most-records-requires Inv-loop μ-loop
@@ -99,7 +99,7 @@ write-line-requires : tie.Need-write-line-requires Inv-loop μ-loop
 write-line-requires c κs =
     let done = c .before .before .before in
     let A = here done in
-    (A .packs .valid, A .packs .few, turn done .loop .inv .5)
+    (A .accepted .valid, A .accepted .few, turn done .loop .inv .5)
 
 slice-reshare-prefix-write-all : tie.Need-slice-reshare-prefix-write-all Inv-loop μ-loop
 slice-reshare-prefix-write-all c = written (c .before .before)

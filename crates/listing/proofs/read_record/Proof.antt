@@ -4,16 +4,16 @@ use borrow.Author.Needs.{needs}
 use mathlib.Core.List.{List, _++_}
 use Prim.Native.Nat.{ℕ, _≤_}
 use lib.ListN.{length, drop}
-use Rattle.listing.proofs.Held.{first-two, held-same, first-counts, first-held, more-wanted, whole-held}
+use Rattle.listing.proofs.TwoReads.{first-two, length-kept, first-counts, none-wanted, more-wanted, all-counted}
 use Rattle.listing.proofs.read_record.Statement.{statement}
 use Rattle.listing.proofs.read_record.Tie as tie
 
--- what is held when two bytes were read, and how many there are
+-- the list when two bytes were read, and how many there are
 abbrev two : tie.After-read-full → List ℕ
 two c = c .read-full .last .1 .0 ++ drop 2 (c .before .before .before .args .held .now)
 
 enough : (c : tie.After-read-full) → 1280 ≤ length (two c)
-enough c = omega (arith, held-same (c .read-full .last .1 .0) (c .before .before .before .args .held .now) (c .read-full .kept .1 .0), c .before .before .before .pre)
+enough c = omega (arith, length-kept (c .read-full .last .1 .0) (c .before .before .before .args .held .now) (c .read-full .kept .1 .0), c .before .before .before .pre)
 
 few : (c : tie.After-read-full) → c .read-full .result ≤ 2
 few c = omega (arith, c .read-full .ensures .0, c .read-full .kept .1 .0, first-two (c .before .before .before .args .held .now) (c .before .before .before .pre))
@@ -43,7 +43,7 @@ returns : tie.Need-returns
 returns c =
     let wanted = c .before in
     let r = wanted .before .before .before .before in
-    first-held (two r) (enough r) (few r) (wanted .bytes-wanted .ensures) (c .if1 .taken)
+    none-wanted (two r) (enough r) (few r) (wanted .bytes-wanted .ensures) (c .if1 .taken)
 
 sub-read-full : tie.Need-sub-read-full
 sub-read-full c =
@@ -77,7 +77,7 @@ returns-2 c =
     let more = c .before .before in
     let wanted = more .before .before .before in
     let r = wanted .before .before .before .before in
-    whole-held (two r) (enough r) (few r) (wanted .bytes-wanted .ensures) (more .read-full2 .last .1 .0) _
+    all-counted (two r) (enough r) (few r) (wanted .bytes-wanted .ensures) (more .read-full2 .last .1 .0) _
     (more .before .before .if1 .left) (more .read-full2 .ensures .0) (more .read-full2 .kept .1 .0)
 
 pub read-record-spec : {M : Type 1} → statement M

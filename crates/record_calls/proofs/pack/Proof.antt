@@ -1,20 +1,25 @@
-use Rattle.accepting.specs.Kept.{short-room, full-list}
-use native.Mathlib.Omega.{arith}
+-- `pack` meets its contract: the vector is checked, and then its record has the room.
 use borrow.Author.Needs.{needs}
-use mathlib.Core.Path.{refl, sym, _∙_}
+use mathlib.Core.List.{List}
+use mathlib.Core.Path.{_≡_, refl, sym, _∙_}
+use Prim.Native.Nat.{ℕ}
+use Rattle.rules.specs.Record.{recordOf}
 use Rattle.rules.specs.Answer as answers
 use Rattle.rules.specs.CallPack as calls
+use Rattle.accepting.specs.FromVector.{Vector, vector-accepted}
+use Rattle.accepting.specs.Kept.{short-room, full-list}
 use Rattle.record_laws.specs.Inverse.{length-record}
 use Rattle.vector_calls.proofs.Checked.{checked-sound, refused-alike}
-use Rattle.record_calls.proofs.Packing.{record-made}
 use Rattle.record_calls.proofs.pack.Statement.{statement}
 use Rattle.record_calls.proofs.pack.Tie as tie
-use Rattle.record_calls.proofs.pack.Reads as reads
-use Rattle.record_calls.proofs.pack.Lts as lts
-use Rattle.packing.proofs.pack_into.Reads as pack-into-reads
-use Rattle.lengths.proofs.record_length.Reads as record-length-reads
-use Rattle.vector_calls.proofs.check.Reads as check-reads
-use Rattle.answering.proofs.refuse.Reads as refuse-reads
+
+record-made : (v : List ℕ) → Vector v → calls.pack v ≡ answers.made (recordOf v)
+unfolding calls.pack
+record-made v S = vector-accepted v (answers.made (recordOf v)) S
+
+-- where the check is done the vector is accepted
+checked : (c : tie.After-enum-told) → Vector (c .before .before .before .before .before .args .v .now)
+checked c = checked-sound (c .before .before .check .ensures) (c .enum-told .given .1)
 
 check-requires : tie.Need-check-requires
 check-requires c κs = search needs
@@ -26,20 +31,24 @@ enum-told : tie.Need-enum-told
 enum-told c = search needs
 
 record-length-requires : tie.Need-record-length-requires
-record-length-requires c κs = let S = checked-sound (c .before .before .check .ensures) (c .enum-told .given .1) in
-    (S .valid .some-leaf, S .few)
+record-length-requires c κs = let S = checked c in (S .valid .some-leaf, S .few)
 
 refuse-requires : tie.Need-refuse-requires
 refuse-requires c κs = search needs
 
 returns : tie.Need-returns
 unfolding answers.reads answers.numberOf
-returns c = let S = checked-sound (c .before .before .before .before .before .check .ensures) (c .before .before .before .enum-told .given .1) in
-    short-room _ _ (record-made _ S) (length-record _ ∙ sym (c .before .before .record-length .ensures)) (c .before .if1 .taken) (c .refuse .ensures)
+returns c =
+    let test = c .before in
+    let bytes = test .before in
+    short-room _ _ (record-made _ (checked (bytes .before))) (length-record _ ∙ sym (bytes .record-length .ensures)) (test .if1 .taken) (c .refuse .ensures)
 
 pack-into-requires : tie.Need-pack-into-requires
-pack-into-requires c κs = let S = checked-sound (c .before .before .before .before .before .check .ensures) (c .before .before .before .enum-told .given .1) in
-    (S .valid, S .few, rw (c .before .before .record-length .ensures) at (c .before .if1 .left))
+pack-into-requires c κs =
+    let test = c .before in
+    let bytes = test .before in
+    let S = checked (bytes .before) in
+    (S .valid, S .few, rw (bytes .record-length .ensures) at (test .if1 .left))
 
 returns-2 : tie.Need-returns-2
 unfolding calls.pack
@@ -50,8 +59,12 @@ same-length c = search needs
 
 returns-3 : tie.Need-returns-3
 unfolding answers.reads answers.numberOf
-returns-3 c = let S = checked-sound (c .before .before .before .before .before .before .before .before .check .ensures) (c .before .before .before .before .before .before .enum-told .given .1) in
-    full-list _ _ (record-made _ S) (length-record _ ∙ sym (c .before .before .before .before .before .record-length .ensures)) (c .before .before .before .before .if1 .left) (rw (← c .before .before .before .before .before .record-length .ensures) at (c .before .before .pack-into .ensures))
+returns-3 c =
+    let packed = c .before .before in
+    let test = packed .before .before in
+    let bytes = test .before in
+    let e = bytes .record-length .ensures in
+    full-list _ _ (record-made _ (checked (bytes .before))) (length-record _ ∙ sym e) (test .if1 .left) (rw (← e) at (packed .pack-into .ensures))
 
 pub pack-spec : {M : Type 1} → statement M
 pack-spec =

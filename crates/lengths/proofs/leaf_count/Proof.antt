@@ -1,4 +1,4 @@
--- `record::leaf_count` meets its contract: the number of the first field.
+-- `lengths::leaf_count` meets its contract: the number of the first field.
 use native.Mathlib.Omega.{arith}
 use borrow.Author.Needs.{needs}
 use mathlib.Core.Path.{_≡_, ap}
@@ -8,8 +8,8 @@ use lib.ListN.{getD}
 use Rattle.rules.specs.Record.{leafCount}
 use Rattle.record_laws.specs.Window.{valueAt, value-lt}
 use Rattle.bits.specs.Fields.{fieldRead}
-use Rattle.record.proofs.leaf_count.Statement.{statement}
-use Rattle.record.proofs.leaf_count.Tie as tie
+use Rattle.lengths.proofs.leaf_count.Statement.{statement}
+use Rattle.lengths.proofs.leaf_count.Tie as tie
 
 -- what stands in the one place
 counted : (s out : List ℕ) → out ≡ fieldRead s 0 11 (0 ∷ []) 0 → getD out 0 0 ≡ valueAt s 0 11

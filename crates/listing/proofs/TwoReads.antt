@@ -1,5 +1,5 @@
--- The bytes of a record at the front of a lent list: two are read, and behind them those that these want.
--- Main results: first-two, held-same; first-counts, first-held, more-wanted, whole-held.
+-- The bytes of a record at the front of a lent list, in two reads: two bytes, and behind them those that these want.
+-- Main results: first-two, length-kept; first-counts, none-wanted, more-wanted, all-counted.
 use mathlib.Core.List.{List, _++_}
 use mathlib.Core.Logic.{_≢_}
 use mathlib.Core.Path.{_≡_, sym, ap, _∙_}
@@ -15,8 +15,8 @@ use Rattle.holding.specs.Wanted.{bytesWanted, wanted-begun, wanted-front, wante
 pub first-two : (xs : List ℕ) → 1280 ≤ length xs → 2 ≡ length (take 2 xs)
 first-two xs h = sym (length-take-le 2 xs (omega arith))
 
-pub held-same : (back xs : List ℕ) → length back ≡ length (take 2 xs) → length (back ++ drop 2 xs) ≡ length xs
-held-same back xs e = length-front xs back 2 e
+pub length-kept : (back xs : List ℕ) → length back ≡ length (take 2 xs) → length (back ++ drop 2 xs) ≡ length xs
+length-kept back xs e = length-front xs back 2 e
 
 pub first-counts : (xs : List ℕ) {got : ℕ} → 1280 ≤ length xs → got ≤ 2 → Counts got xs
 first-counts xs {got} enough few = counts got xs (omega arith)
@@ -24,8 +24,8 @@ first-counts xs {got} enough few = counts got xs (omega arith)
 -- got bytes were read of two, and these want w
 module _ (xs : List ℕ) {got w : ℕ} (enough : 1280 ≤ length xs) (few : got ≤ 2) (wants : w ≡ bytesWanted (take got xs)) where
   -- no more are wanted
-  pub first-held : w ≡ 2 → Counts got xs × (got ≤ bytesWanted (take got xs))
-  first-held e = (first-counts xs enough few, omega arith)
+  pub none-wanted : w ≡ 2 → Counts got xs × (got ≤ bytesWanted (take got xs))
+  none-wanted e = (first-counts xs enough few, omega arith)
 
   -- where more are wanted there were two
   two-read : w ≢ 2 → got ≡ 2
@@ -35,9 +35,9 @@ module _ (xs : List ℕ) {got w : ℕ} (enough : 1280 ≤ length xs) (few : got 
   more-wanted = let h = wanted-within (take got xs) in (omega arith, omega arith)
 
   -- two bytes, and those read behind them
-  pub whole-held : (back : List ℕ) (n : ℕ) → w ≢ 2 → n ≤ length back → length back ≡ length (take (w - 2) (drop 2 xs))
+  pub all-counted : (back : List ℕ) (n : ℕ) → w ≢ 2 → n ≤ length back → length back ≡ length (take (w - 2) (drop 2 xs))
       → Counts (2 + n) (take 2 xs ++ (back ++ drop (w - 2) (drop 2 xs))) × (2 + n ≤ bytesWanted (take (2 + n) (take 2 xs ++ (back ++ drop (w - 2) (drop 2 xs)))))
-  whole-held back n d l b = (
+  all-counted back n d l b = (
     counts (2 + n) ys (omega (arith, length-append (take 2 xs) rest, length-append back (drop (w - 2) (drop 2 xs)), two)),
     omega (arith, same, more-wanted, b, length-take-le (w - 2) (drop 2 xs) behind),
   )
