@@ -1,5 +1,4 @@
 -- `hand_out` meets its contract: too little room, or the numbers copied.
-use native.Mathlib.Omega.{arith}
 use mathlib.Core.Path.{refl}
 use borrow.Author.Needs.{needs}
 use lib.Seq.{length-take-le}

@@ -1,7 +1,6 @@
 use lib.ListN.{length}
 use Prim.Native.Nat.{_≤_}
 use mathlib.Core.Path.{_≡_}
-use native.Mathlib.Omega.{arith}
 use borrow.Author.Needs.{needs}
 use Rattle.every.proofs.vectors.Statement.{statement}
 use Rattle.every.proofs.vectors.Tie as tie

@@ -3,7 +3,6 @@ use Rattle.rules.specs.Answer as answers
 use Rattle.accepting.specs.Kept.{refused-early, handed-on}
 use Rattle.rules.specs.CallFromNewick.{too-long}
 use Rattle.text_vector.specs.Gives.{held-there}
-use native.Mathlib.Omega.{arith}
 use borrow.Author.Needs.{needs}
 use Rattle.text_calls.proofs.from_newick.Statement.{statement}
 use Rattle.text_calls.proofs.from_newick.Tie as tie

@@ -4,7 +4,6 @@ use Rattle.rules.specs.Answer as answers
 use Rattle.rules.specs.CallToNewick as calls
 use Rattle.vector_calls.proofs.Checked.{checked-sound, refused-alike}
 use Rattle.text_calls.proofs.ToText.{text-made, text-count}
-use native.Mathlib.Omega.{arith}
 use borrow.Author.Needs.{needs}
 use Rattle.text_calls.proofs.to_newick.Statement.{statement}
 use Rattle.text_calls.proofs.to_newick.Tie as tie

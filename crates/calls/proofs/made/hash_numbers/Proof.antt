@@ -1,6 +1,5 @@
 use lib.ListN.{length}
 use Prim.Native.Nat.{_-_}
-use native.Mathlib.Omega.{arith}
 use borrow.Author.Needs.{needs}
 use Rattle.calls.proofs.made.hash_numbers.Statement.{statement}
 use Rattle.calls.proofs.made.hash_numbers.Tie as tie

@@ -1,6 +1,5 @@
 use Prim.Native.Nat.{_≤_}
 use lib.ListN.{length}
-use native.Mathlib.Omega.{arith}
 use borrow.Author.Needs.{needs}
 use Rattle.calls.proofs.stream.value.Statement.{statement}
 use Rattle.calls.proofs.stream.value.Tie as tie
