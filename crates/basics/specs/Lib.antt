@@ -3,3 +3,5 @@ pub mod Cases
 pub mod Fault
 pub mod Listed
 pub mod Sums
+pub mod Names
+pub mod Flagged

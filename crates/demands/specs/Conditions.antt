@@ -7,7 +7,8 @@ use Prim.Native.Nat.{ℕ, _+_, _≤_, _<_}
 use lib.ListN.{length, getD}
 use Rattle.rules.specs.Vector.{entry, bound}
 use Rattle.rules.specs.Table.{Row}
-use Rattle.rules.specs.Newick.{Placed, labelsOf}
+use Rattle.rules.specs.Names.{Placed}
+use Rattle.rules.specs.Newick.{labelsOf}
 use Rattle.rules.specs.Record.{bitsOf, total}
 -- First: "Of one number, the first place counts."
 pub use Rattle.searching.specs.First.{First}

@@ -13,10 +13,12 @@ use lib.Seq.{getD-drop}
 use borrow.Author.Tests.{ltb-true, ltb-false, eqb-true, eq-eqb}
 use Rattle.rules.specs.Vector.{entry, bound, fault}
 use Rattle.rules.specs.Building.{member}
-use Rattle.rules.specs.Newick.{Placed, labelFault}
+use Rattle.rules.specs.Names.{Placed}
+use Rattle.rules.specs.Newick.{labelFault}
 use Rattle.rules.specs.Record.{bitsOf, total, anySet, padding}
 use Rattle.rules.specs.Shuffle.{permutationFault}
 use Rattle.basics.specs.Bools.{or-cases, or-left, or-right}
+use Rattle.basics.specs.Names.{label-step, value-step}
 use Rattle.searching.specs.First.{Tells, tells-if, if-or-else, Below, FirstFound, found-same}
 use Rattle.searching.specs.Walked.{Walk, gathered, gathered-some, walk-found}
 use Rattle.demands.specs.Conditions.{Above, Unfit, PaddingSet}
@@ -84,7 +86,10 @@ pub unfit-found : (n : ℕ) (p : List ℕ) → FirstFound (Unfit n p) (λ i w. i
 unfolding permutationFault entry
 unfit-found n p =
     unfit-walk n (λ x. x) (λ i x. i) 0 p (permutationFault n)
-    (record { at-end = λ i used. refl; at-each = λ i used x xs. if-or-else (not (ltb x n) || member x used) i (permutationFault n (i + 1) (x ∷ used) xs) })
+    (record {
+      at-end = λ i used. refl;
+      at-each = λ i used x xs. value-step n i used x xs ∙ if-or-else (not (ltb x n) || member x used) i (permutationFault n (i + 1) (x ∷ used) xs);
+    })
 
 -- 9: the first label that is not below n, or used before, by the place of its first byte
 abbrev value : Placed → ℕ
@@ -99,7 +104,10 @@ unfolding labelFault entry
 label-found n ls =
     found-same (λ i w. getD ls i (0, 0) .0)
     (unfit-walk n value (λ i l. l .0) (0, 0) ls (λ i used ls. labelFault n used ls)
-    (record { at-end = λ i used. refl; at-each = λ i used l ls. if-or-else (not (ltb (l .1) n) || member (l .1) used) (l .0) (labelFault n (l .1 ∷ used) ls) }))
+    (record {
+      at-end = λ i used. refl;
+      at-each = λ i used l ls. label-step n used l ls ∙ if-or-else (not (ltb (l .1) n) || member (l .1) used) (l .0) (labelFault n (l .1 ∷ used) ls);
+    }))
     (λ i w. (omega (arith, w .0, count), unfit-same n _ _ (λ j. sym (List·getD-map value ls j (0, 0))) i (w .1)))
     (λ i w. (omega (arith, w .0, count), unfit-same n _ _ (λ j. List·getD-map value ls j (0, 0)) i (w .1)))
     (λ i w. refl)

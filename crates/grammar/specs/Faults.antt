@@ -10,9 +10,11 @@ use lib.Dec.{eqb, ltb}
 use lib.ListN.{length}
 use borrow.Author.Tests.{eq-eqb, eqb-true, lt-ltb, ltb-true}
 use Rattle.rules.specs.Building.{member}
-use Rattle.rules.specs.Newick.{Placed, Text, labelsOf, labelFault}
+use Rattle.rules.specs.Names.{Placed}
+use Rattle.rules.specs.Newick.{Text, labelsOf, labelFault}
 use Rattle.rules.specs.Tree.{Tree, leaf, node, has, Distinct, LeavesBelow}
 use Rattle.basics.specs.Bools.{or-no}
+use Rattle.basics.specs.Names.{label-step}
 use Rattle.clades.specs.Leaves.{has-left, has-right, has-cases}
 use Rattle.clades.specs.Size.{every-leaf, size-below}
 use Rattle.grammar.specs.Labels.{value, leavesOf, text-labels, text-label-count}
@@ -30,7 +32,8 @@ isNone (some x) = false
 pub fault-fits : (n : ℕ) (used : List ℕ) (ls : List Placed) → isNone (labelFault n used ls) ≡ fits n used (map value ls)
 unfolding labelFault fits
 fault-fits n used [] = refl
-fault-fits n used (l ∷ ls) = go (not (ltb (l .1) n) || member (l .1) used) (fault-fits n (l .1 ∷ used) ls)
+fault-fits n used (l ∷ ls) =
+    ap isNone (label-step n used l ls) ∙ go (not (ltb (l .1) n) || member (l .1) used) (fault-fits n (l .1 ∷ used) ls)
   where
     go : (b : Bool) → isNone (labelFault n (l .1 ∷ used) ls) ≡ fits n (l .1 ∷ used) (map value ls)
         → isNone (cond b (some (l .0)) (labelFault n (l .1 ∷ used) ls)) ≡ cond b false (fits n (l .1 ∷ used) (map value ls))

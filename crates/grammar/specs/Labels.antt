@@ -7,7 +7,8 @@ use mathlib.Core.Option.{Option, none, some}
 use Prim.Native.Nat.{ℕ, suc, _+_, _-_, _*_}
 use native.Mathlib.Omega.{arith}
 use lib.ListN.{length, length-append, length-map}
-use Rattle.rules.specs.Newick.{isDigit, allDigits, valueFrom, Label, nought, number, Node, label, pair, pairText, Text, text, Placed, withDigit, ending, labelsFrom, labelsOf}
+use Rattle.rules.specs.Names.{Placed}
+use Rattle.rules.specs.Newick.{isDigit, allDigits, valueFrom, Label, nought, number, Node, label, pair, pairText, Text, text, withDigit, ending, labelsFrom, labelsOf}
 use Rattle.rules.specs.Tree.{Tree, leaf, node, size}
 use Rattle.basics.specs.Bools.{and-both}
 

@@ -7,12 +7,14 @@ use mathlib.Core.Option.{Option, none, some}
 use Prim.Native.Nat.{ℕ, _+_, _-_, _*_, _≤_, _<_}
 use native.Mathlib.Omega.{arith}
 use native.Mathlib.Numerals.{add-one}
-use lib.Dec.{eqb, ltb}
-use lib.ListN.{length, getD, set, drop, length-set, drop-of-length-le}
-use lib.Seq.{drop-cons, getD-set-same, getD-set-other}
-use borrow.Author.Tests.{lt-ltb, le-ltb, eqb-true, eqb-false}
+use lib.Dec.{ltb}
+use lib.ListN.{length, getD, set, drop, drop-of-length-le}
+use lib.Seq.{drop-cons}
 use Rattle.rules.specs.Building.{member}
-use Rattle.rules.specs.Newick.{Placed, isDigit, withDigit, ending, labelsFrom, labelsOf, labelFault}
+use Rattle.rules.specs.Names.{Placed}
+use Rattle.rules.specs.Newick.{isDigit, withDigit, ending, labelsFrom, labelsOf, labelFault}
+use Rattle.basics.specs.Flagged.{Flagged, flagged-none, flagged-next, name-free, name-taken}
+use Rattle.basics.specs.Names.{name-large, label-fine, label-wrong, label-step}
 use Rattle.text_laws.specs.Cells.{Blank}
 
 -- the label being read, if one is: its place and its number so far
@@ -48,25 +50,28 @@ pub record Looking (s : List ℕ) (n : ℕ) (used : List ℕ) (at : ℕ) (inside
   pub seen : List ℕ
   pub few : n ≤ 1024
   pub within : at ≤ length s
-  pub room : length used ≡ 1024
   pub small : inside ≡ true → x < n
-  pub marks : (y : ℕ) → y < 1024 → getD used y 0 ≡ cond (member y seen) 1 0
+  pub marks : Flagged seen used
   pub rest : labelFault n [] (labelsOf s) ≡ labelFault n seen (labelsFrom at (reading inside start x) (drop at s))
 
 pub look-start : {s : List ℕ} {n : ℕ} {used : List ℕ} → n ≤ 1024 → length used ≡ 1024 → Blank used → Looking s n used 0 false 0 0
-unfolding reading labelsOf member
-look-start h r u = record { seen = []; few = h; within = omega arith; room = r; small = λ q. absurd (true≢false (sym q)); marks = λ y l. u y; rest = refl }
+unfolding reading labelsOf
+look-start h r u = record { seen = []; few = h; within = omega arith; small = λ q. absurd (true≢false (sym q)); marks = flagged-none r (λ y l. u y); rest = refl }
+
+-- a label that is not below n is at fault, whatever labels follow
+large : (n : ℕ) (seen : List ℕ) (start x : ℕ) (ls : List Placed) → n ≤ x → labelFault n seen ((start, x) ∷ ls) ≡ some start
+large n seen start x ls h = label-wrong n seen (start, x) ls _ (name-large n seen x h)
 
 -- a label that reaches n is at fault, whatever digits follow
 grown-fault : (n : ℕ) (seen : List ℕ) (start x at : ℕ) (s : List ℕ) → n ≤ x → labelFault n seen (labelsFrom at (some (start, x)) s) ≡ some start
-unfolding labelFault labelsFrom ending withDigit
-grown-fault n seen start x at [] h = rw (le-ltb x n h)
+unfolding labelsFrom ending withDigit
+grown-fault n seen start x at [] h = large n seen start x [] h
 grown-fault n seen start x at (c ∷ s) h = go (isDigit c) refl (grown-fault n seen start (10 * x + (c - 48)) (at + 1) s (omega arith))
   where
     go : (b : Bool) → isDigit c ≡ b → labelFault n seen (labelsFrom (at + 1) (some (start, 10 * x + (c - 48))) s) ≡ some start
         → labelFault n seen (ending (cond b none (some (start, x))) (labelsFrom (at + 1) (cond b (withDigit at c (some (start, x))) none) s)) ≡ some start
     go true e more = more
-    go false e more = rw (le-ltb x n h)
+    go false e more = large n seen start x (labelsFrom (at + 1) none s) h
 
 module _ {s : List ℕ} {n : ℕ} {used : List ℕ} {at : ℕ} {inside : Bool} {start x : ℕ} (L : Looking s n used at inside start x) where
   -- at the end the label being read is the one at fault, since one is
@@ -79,7 +84,7 @@ module _ {s : List ℕ} {n : ℕ} {used : List ℕ} {at : ℕ} {inside : Bool} {
       last false e = absurd (some-fault e)
 
       go : (b : Bool) → labelFault n [] (labelsOf s) ≡ labelFault n (L .seen) (labelsFrom at (reading b start x) []) → some start ≡ labelFault n [] (labelsOf s)
-      go true e = last (not (ltb x n) || member x (L .seen)) e
+      go true e = last (not (ltb x n) || member x (L .seen)) (e ∙ label-step n (L .seen) (start, x) [])
       go false e = absurd (some-fault e)
 
   module _ (h : at < length s) where
@@ -113,7 +118,6 @@ module _ {s : List ℕ} {n : ℕ} {used : List ℕ} {at : ℕ} {inside : Bool} {
         seen = L .seen;
         few = L .few;
         within = omega arith;
-        room = L .room;
         small = λ e. g;
         marks = L .marks;
         rest = more inside refl ∙ ap₂ (λ (a b : ℕ). labelFault n (L .seen) (labelsFrom (at + 1) (some (a, b)) (drop (at + 1) s))) (sym p) (sym q);
@@ -133,7 +137,6 @@ module _ {s : List ℕ} {n : ℕ} {used : List ℕ} {at : ℕ} {inside : Bool} {
         seen = L .seen;
         few = L .few;
         within = omega arith;
-        room = L .room;
         small = λ q. absurd (true≢false (sym q ∙ e));
         marks = L .marks;
         rest =
@@ -142,49 +145,29 @@ module _ {s : List ℕ} {n : ℕ} {used : List ℕ} {at : ℕ} {inside : Bool} {
       }
 
       module _ (e : inside ≡ true) where
-        this-label : labelFault n [] (labelsOf s)
-            ≡ cond (not (ltb x n) || member x (L .seen)) (some start) (labelFault n (x ∷ L .seen) (labelsFrom (at + 1) none (drop (at + 1) s)))
-        unfolding reading ending labelFault
+        this-label : labelFault n [] (labelsOf s) ≡ labelFault n (L .seen) ((start, x) ∷ labelsFrom (at + 1) none (drop (at + 1) s))
+        unfolding reading ending
         this-label = ends ∙ ap (λ (b : Bool). labelFault n (L .seen) (ending (reading b start x) (labelsFrom (at + 1) none (drop (at + 1) s)))) e
 
         below : x < n
         below = L .small e
 
-        used-is : (b : Bool) → member x (L .seen) ≡ b → getD used x 0 ≡ cond b 1 0
-        used-is b q = L .marks x (omega (arith, below, L .few)) ∙ ap (λ (c : Bool). cond c 1 0) q
-
         pub number-small : x < 1024
         number-small = omega (arith, below, L .few)
 
         pub look-used : (getD used x 0 ≡ 0 → ⊥) → some start ≡ labelFault n [] (labelsOf s)
-        look-used u = sym (this-label ∙ rw (lt-ltb x n below) (go (member x (L .seen)) refl))
-          where
-            go : (b : Bool) → member x (L .seen) ≡ b → cond (false || b) (some start) (labelFault n (x ∷ L .seen) (labelsFrom (at + 1) none (drop (at + 1) s))) ≡ some start
-            go true q = refl
-            go false q = absurd (u (used-is false q))
+        look-used u = sym (this-label ∙ label-wrong n (L .seen) (start, x) _ _ (name-taken (L .few) below (L .marks) u))
 
         pub look-fresh : getD used x 0 ≡ 0 → Looking s n (set used x 1) (at + 1) false start x
-        unfolding reading member
+        unfolding reading
         look-fresh u = record {
           seen = x ∷ L .seen;
           few = L .few;
           within = omega arith;
-          room = length-set used x 1 ∙ L .room;
           small = λ q. absurd (true≢false (sym q));
-          marks = λ y l. go y l (eqb y x) refl;
-          rest = this-label ∙ rw (lt-ltb x n below) (fresh (member x (L .seen)) refl);
+          marks = flagged-next number-small (L .marks);
+          rest = this-label ∙ label-fine n (L .seen) (start, x) _ (name-free (L .few) below (L .marks) u);
         }
-          where
-            fresh : (b : Bool) → member x (L .seen) ≡ b
-                → cond (false || b) (some start) (labelFault n (x ∷ L .seen) (labelsFrom (at + 1) none (drop (at + 1) s))) ≡ labelFault n (x ∷ L .seen) (labelsFrom (at + 1) none (drop (at + 1) s))
-            fresh true q = absurd (let k : getD used x 0 ≡ 1 = used-is true q in omega arith)
-            fresh false q = refl
-
-            go : (y : ℕ) → y < 1024 → (b : Bool) → eqb y x ≡ b → getD (set used x 1) y 0 ≡ cond (b || member y (L .seen)) 1 0
-            go y l true q =
-                let z : y ≡ x = eqb-true y x q in
-                rw (← z) (getD-set-same used y 1 0 (omega (arith, L .room)))
-            go y l false q = getD-set-other used x y 1 0 (eqb-false y x q) ∙ L .marks y l
 
 pub looking-as : {s : List ℕ} {n : ℕ} {used used′ : List ℕ} {at : ℕ} {inside inside′ : Bool} {start start′ x x′ : ℕ} → used′ ≡ used → inside′ ≡ inside → start′ ≡ start → x′ ≡ x
     → Looking s n used at inside start x → Looking s n used′ at inside′ start′ x′

@@ -1,21 +1,22 @@
 -- The first fault of a permutation, found with a flag for each number below n.
--- Main definitions: placeOf, usedAt, Marked, Mark, Search. Main results: search-start, search-next, search-stop, search-end.
-use mathlib.Core.Path.{_≡_, refl, sym, _∙_}
+-- Main definitions: placeOf, usedAt, Mark, Search. Main results: search-start, search-next, search-stop, search-end.
+use mathlib.Core.Path.{_≡_, refl, _∙_}
 use mathlib.Core.Logic.{_≢_}
-use mathlib.Core.Bool.{Bool, true, false, not, _||_, cond}
+use mathlib.Core.Bool.{Bool, true, false, cond}
 use mathlib.Core.List.{List, [], _∷_}
 use mathlib.Core.Option.{Option, none, some}
 use Prim.Native.Nat.{ℕ, zero, suc, _+_, _≤_, _<_}
 use native.Mathlib.Numerals.{add-one}
 use native.Mathlib.Omega.{arith}
 use lib.Dec.{ltb}
-use lib.ListN.{length, getD, set, drop, replicate, length-set, length-replicate, getD-replicate}
-use lib.Seq.{drop-cons, getD-set-same, getD-set-other, drop-length}
-use borrow.Author.Tests.{lt-ltb, le-ltb, eq-eqb, ne-eqb}
-use Rattle.rules.specs.Building.{member}
+use lib.ListN.{length, getD, set, drop, replicate, length-replicate, getD-replicate}
+use lib.Seq.{drop-cons, drop-length}
+use borrow.Author.Tests.{lt-ltb, le-ltb}
+use Rattle.rules.specs.Names.{NameFault, nameFault}
 use Rattle.rules.specs.Shuffle.{permutationFault}
-use Rattle.basics.specs.Cases.{by-lt, by-eq}
-use Rattle.basics.specs.Sums.{one}
+use Rattle.basics.specs.Cases.{by-lt}
+use Rattle.basics.specs.Names.{name-large, value-fine, value-wrong}
+use Rattle.basics.specs.Flagged.{Flagged, flagged-none, flagged-next, name-free, name-taken}
 
 -- a place below the length, or none
 unfoldable pub placeOf : ℕ → ℕ → Option ℕ
@@ -26,11 +27,6 @@ unfoldable pub usedAt : ℕ → List ℕ → List ℕ
 usedAt zero p = []
 usedAt (suc i) p = getD p i 0 ∷ usedAt i p
 
--- each number below n has the flag 1 where it was used, else 0
-pub record Marked (n : ℕ) (used flags : List ℕ) : Type 0 where
-  pub size : length flags ≡ 1024
-  pub each : (y : ℕ) → y < n → getD flags y 0 ≡ one (member y used)
-
 -- x is below n and had no flag, and has one now; or it is not so, and nothing changes
 pub record Mark (n x : ℕ) (flags : List ℕ) (fresh : Bool) (flags′ : List ℕ) : Type 0 where
   pub yes : fresh ≡ true → (x < n) × (getD flags x 0 ≡ 0) × (flags′ ≡ set flags x 1)
@@ -40,48 +36,28 @@ pub record Mark (n x : ℕ) (flags : List ℕ) (fresh : Bool) (flags′ : List �
 pub record Search (n : ℕ) (p flags : List ℕ) (i : ℕ) : Type 0 where
   pub small : n ≤ 1024
   pub within : i ≤ length p
-  pub marked : Marked n (usedAt i p) flags
+  pub marked : Flagged (usedAt i p) flags
   pub rest : permutationFault n 0 [] p ≡ permutationFault n i (usedAt i p) (drop i p)
 
 pub search-start : (n : ℕ) (p : List ℕ) → n ≤ 1024 → Search n p (replicate 1024 0) 0
-unfolding usedAt member one
+unfolding usedAt
 search-start n p h = record {
   small = h;
   within = omega arith;
-  marked = record { size = length-replicate 1024 zero; each = λ y l. getD-replicate 1024 y zero zero (omega arith) };
+  marked = flagged-none (length-replicate 1024 zero) (λ y l. getD-replicate 1024 y zero zero l);
   rest = refl;
 }
 
--- one more value, at index i
-fault-step : (n i : ℕ) (used p : List ℕ) → i < length p → permutationFault n i used (drop i p)
-    ≡ cond (not (ltb (getD p i 0) n) || member (getD p i 0) used) (some i) (permutationFault n (i + 1) (getD p i 0 ∷ used) (drop (i + 1) p))
-unfolding permutationFault
-fault-step n i used p h = rw (drop-cons p i 0 h, add-one i)
+-- the value at index i, and those behind it
+module _ (n i : ℕ) (used p : List ℕ) (h : i < length p) where
+  this-value : permutationFault n i used (drop i p) ≡ permutationFault n i used (getD p i 0 ∷ drop (i + 1) p)
+  this-value = rw (drop-cons p i 0 h, add-one i)
 
-one-member : (x : ℕ) (used : List ℕ) → one (member x used) ≡ 0 → member x used ≡ false
-unfolding one
-one-member x used = go (member x used)
-  where
-    go : (b : Bool) → cond b 1 0 ≡ zero → b ≡ false
-    go true e = absurd (omega arith)
-    go false e = refl
+  step-fine : nameFault n used (getD p i 0) ≡ none → permutationFault n i used (drop i p) ≡ permutationFault n (i + 1) (getD p i 0 ∷ used) (drop (i + 1) p)
+  step-fine e = this-value ∙ value-fine n i used (getD p i 0) (drop (i + 1) p) e
 
-member-one : (x : ℕ) (used : List ℕ) → one (member x used) ≢ 0 → member x used ≡ true
-unfolding one
-member-one x used = go (member x used)
-  where
-    go : (b : Bool) → cond b 1 0 ≢ zero → b ≡ true
-    go true d = refl
-    go false d = absurd (d refl)
-
-marked-next : (n x : ℕ) (used flags : List ℕ) → n ≤ 1024 → x < n → Marked n used flags → Marked n (x ∷ used) (set flags x 1)
-unfolding member one
-marked-next n x used flags h l M = record {
-  size = length-set flags x 1 ∙ M .size;
-  each = λ y k. by-eq y x
-      (λ e. rw (e, eq-eqb x x refl) (getD-set-same flags x 1 0 (omega (arith, M .size))))
-      (λ d. rw (ne-eqb y x d) (getD-set-other flags x y 1 0 d ∙ M .each y k));
-}
+  step-wrong : (wrong : NameFault) → nameFault n used (getD p i 0) ≡ some wrong → permutationFault n i used (drop i p) ≡ some i
+  step-wrong wrong e = this-value ∙ value-wrong n i used (getD p i 0) (drop (i + 1) p) wrong e
 
 -- the value at index i is fresh
 pub search-next : {n : ℕ} {p flags flags′ : List ℕ} {i : ℕ} {fresh : Bool} → Search n p flags i → i < length p
@@ -89,13 +65,11 @@ pub search-next : {n : ℕ} {p flags flags′ : List ℕ} {i : ℕ} {fresh : Boo
 unfolding usedAt
 search-next {n} {p} {flags} {flags′} {i} T h M e =
     let m = M .yes e in
-    let free : member (getD p i 0) (usedAt i p) ≡ false =
-    one-member (getD p i 0) (usedAt i p) (sym (T .marked .each (getD p i 0) (m .0)) ∙ m .1) in
     record {
       small = T .small;
       within = omega arith;
-      marked = rw (add-one i, m .2) (marked-next n (getD p i 0) (usedAt i p) flags (T .small) (m .0) (T .marked));
-      rest = T .rest ∙ fault-step n i (usedAt i p) p h ∙ rw (lt-ltb (getD p i 0) n (m .0), free) (rw (add-one i));
+      marked = rw (add-one i, m .2) (flagged-next (omega (arith, m .0, T .small)) (T .marked));
+      rest = T .rest ∙ step-fine n i (usedAt i p) p h (name-free (T .small) (m .0) (T .marked) (m .1)) ∙ rw (add-one i);
     }
 
 -- the value at index i is not
@@ -104,12 +78,10 @@ pub search-stop : {n : ℕ} {p flags flags′ : List ℕ} {i : ℕ} {fresh : Boo
 unfolding placeOf
 search-stop {n} {p} {flags} {flags′} {i} T h M e =
     rw (lt-ltb i (length p) h)
-    (T .rest ∙ fault-step n i (usedAt i p) p h
+    (T .rest
     ∙ by-lt (getD p i 0) n
-    (λ l. let used : member (getD p i 0) (usedAt i p) ≡ true =
-    member-one (getD p i 0) (usedAt i p) (λ z. M .no e l (T .marked .each (getD p i 0) l ∙ z)) in
-    rw (lt-ltb (getD p i 0) n l, used))
-    (λ l. rw (le-ltb (getD p i 0) n l)))
+    (λ l. step-wrong n i (usedAt i p) p h _ (name-taken (T .small) l (T .marked) (M .no e l)))
+    (λ l. step-wrong n i (usedAt i p) p h _ (name-large n (usedAt i p) (getD p i 0) l)))
 
 -- no value is left
 pub search-end : {n : ℕ} {p flags : List ℕ} {i : ℕ} → Search n p flags i → length p ≤ i → permutationFault n 0 [] p ≡ placeOf (length p) i

@@ -1,5 +1,6 @@
 pub mod Vector
 pub mod Building
+pub mod Names
 pub mod Tree
 pub mod Order
 pub mod Table

@@ -1,13 +1,13 @@
 -- The Newick text: the text of a tree, the grammar, where bytes break it, and the labels with their places.
 -- Main definitions: textOf, Label, Node, Text, Begins, BreaksAt, labelsOf, labelFault.
-use mathlib.Core.Bool.{Bool, true, false, _&&_, _||_, not, cond}
+use mathlib.Core.Bool.{Bool, true, false, _&&_, cond}
 use mathlib.Core.List.{List, [], _∷_, _++_}
 use mathlib.Core.Option.{Option, none, some}
 use mathlib.Core.Path.{_≡_}
 use Prim.Native.Nat.{ℕ, zero, suc, _+_, _-_, _*_, _/_, _%_, _≤_, _<_}
 use lib.Dec.{eqb, ltb, leb}
 use lib.ListN.{length, take}
-use Rattle.rules.specs.Building.{member}
+use Rattle.rules.specs.Names.{Placed, firstFault, faultPlace}
 use Rattle.rules.specs.Tree.{Tree, leaf, node, least}
 
 -- A text is a list of bytes. The signs are ( 40, ) 41, comma 44, ; 59, and the digits 48 to 57.
@@ -74,9 +74,7 @@ pub data BreaksAt (s : List ℕ) : ℕ → Type 0 where
   broken : {k : ℕ} → k < length s → Begins (take k s) → (Begins (take (suc k) s) → ⊥) → BreaksAt s k
   ended : Begins s → ((t : Tree) → Text s t → ⊥) → BreaksAt s (length s)
 
--- A label of a text: the place of its first byte, and its number.
-abbrev pub Placed : Type 0
-Placed = ℕ × ℕ
+-- A label of a text is placed at its first byte.
 
 -- the label being read with one digit more; a digit that follows none begins a label
 unfoldable pub withDigit : ℕ → ℕ → Option Placed → Option Placed
@@ -102,7 +100,5 @@ labelsOf s = labelsFrom 0 none s
 
 -- the place of refusal 9: "label not below n, or used before", the first in text order
 unfoldable pub labelFault : ℕ → List ℕ → List Placed → Option ℕ
-unfolding member
-labelFault n used [] = none
-labelFault n used (l ∷ ls) =
-    cond (not (ltb (l .1) n) || member (l .1) used) (some (l .0)) (labelFault n (l .1 ∷ used) ls)
+unfolding firstFault faultPlace
+labelFault n used ls = faultPlace (firstFault n used ls)

@@ -1,11 +1,11 @@
 -- Queue Shuffle and relabelling.
 -- Main definitions: renamed, permutationFault, taken, newOf.
-use mathlib.Core.Bool.{not, _||_, cond}
+use mathlib.Core.Bool.{cond}
 use mathlib.Core.List.{List, [], _∷_, _++_}
-use mathlib.Core.Option.{Option, none, some}
+use mathlib.Core.Option.{Option}
 use Prim.Native.Nat.{ℕ, zero, suc, _+_, _-_, _*_}
 use lib.Dec.{eqb, ltb}
-use Rattle.rules.specs.Building.{member}
+use Rattle.rules.specs.Names.{Placed, firstFault, faultPlace}
 use Rattle.rules.specs.Vector.{entry}
 use Rattle.rules.specs.Tree.{Tree, leaf, node, least, size}
 use Rattle.rules.specs.Order.{listed}
@@ -16,12 +16,15 @@ unfolding entry
 renamed p (leaf x) = leaf (entry p x)
 renamed p (node l r) = node (renamed p l) (renamed p r)
 
+-- values with their indexes, from index i on
+unfoldable pub placedFrom : ℕ → List ℕ → List Placed
+placedFrom i [] = []
+placedFrom i (x ∷ p) = (i, x) ∷ placedFrom (i + 1) p
+
 -- the place of refusal 11: the first index whose value is "not below n, or used before"
 unfoldable pub permutationFault : ℕ → ℕ → List ℕ → List ℕ → Option ℕ
-unfolding member
-permutationFault n i used [] = none
-permutationFault n i used (x ∷ p) =
-    cond (not (ltb x n) || member x used) (some i) (permutationFault n (i + 1) (x ∷ used) p)
+unfolding placedFrom firstFault faultPlace
+permutationFault n i used p = faultPlace (firstFault n used (placedFrom i p))
 
 -- The queue holds nodes with their labels.
 abbrev pub Queue : Type 0

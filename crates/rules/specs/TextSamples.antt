@@ -1,13 +1,15 @@
 -- Samples of the grammar: numbers in decimal, 01's refused texts, long and deep ones.
--- Main results: decimals, signs, broken-texts, long-texts, levels-hold.
+-- Main results: decimals, signs, wrong-labels, broken-texts, long-texts, levels-hold.
 use mathlib.Core.Bool.{true, false, false≢true}
 use mathlib.Core.Logic.{_≢_}
 use mathlib.Core.List.{List, [], _∷_, _++_, map, append-assoc}
+use mathlib.Core.Option.{some}
 use mathlib.Core.Path.{_≡_, refl, sym, ap, _∙_}
 use Prim.Native.Nat.{ℕ, zero, suc, _≤_, _<_}
 use native.Mathlib.Bridge.{le-by-compare, IsLe}
 use native.Mathlib.Omega.{arith}
 use lib.ListN.{length, getD, replicate, length-append}
+use Rattle.rules.specs.Names.{not-below, used-before, firstFault}
 use Rattle.rules.specs.Tree.{Tree, leaf, node}
 use Rattle.rules.specs.Newick.{pairText, textOf, isDigit, allDigits, valueFrom, nought, number, Node, label, pair, Text, text, Begins, broken, ended, labelsOf}
 use Rattle.rules.specs.Answer.{refuses}
@@ -24,6 +26,11 @@ signs : (map isDigit (47 ∷ 48 ∷ 57 ∷ 58 ∷ []) ≡ false ∷ true ∷ tru
     × (labelsOf (bytes "(12,345);") ≡ (1, 12) ∷ (4, 345) ∷ [])
 unfolding isDigit allDigits labelsOf
 signs = (refl, refl, refl)
+
+-- what is wrong with a label, and where
+wrong-labels : (firstFault 2 [] (labelsOf (bytes "(0,0);")) ≡ some (used-before, 3)) × (firstFault 1 [] (labelsOf (bytes "5;")) ≡ some (not-below, 0))
+unfolding firstFault labelsOf
+wrong-labels = (refl, refl)
 
 -- What stands at the first places of a text, and at its last.
 begins-well : {s : List ℕ} {t : Tree} → Text s t → (1 ≤ length s) × (getD s 0 0 ≢ 41)

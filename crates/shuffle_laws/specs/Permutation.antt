@@ -16,6 +16,7 @@ use Rattle.rules.specs.Order.{listed}
 use Rattle.rules.specs.Shuffle.{permutationFault}
 use Rattle.basics.specs.Cases.{by-lt, by-eq, by-test}
 use Rattle.basics.specs.Listed.{length-listed}
+use Rattle.basics.specs.Names.{value-step}
 use Rattle.basics.specs.Sums.{one, one-le, one-lt, one-ge, one-lt-below, sumBelow, sum-plus, sum-zero, sum-full}
 use Rattle.merging.specs.Once.{hit, hit-same, hit-other}
 use Rattle.shuffle_laws.specs.Count.{hit-le, sum-hit}
@@ -62,24 +63,25 @@ free-room n x used = go (ltb x n) (member x used)
     go false b h = absurd (omega arith)
 
 fault-room : (n i : ℕ) (used p : List ℕ) → permutationFault n i used p ≡ none → (y : ℕ) → occurs y p ≤ room n used y
-unfolding permutationFault occurs
+unfolding occurs
 fault-room n i used [] e y = omega arith
 fault-room n i used (x ∷ p) e y =
+    let first = sym (value-step n i used x p) ∙ e in
     by-test (ltb x n)
     (λ below. by-test (member x used)
-    (λ q. absurd (Option·none-ne-some i (sym (rw (below, q) at e))))
-    (λ q. let rest = fault-room n (i + 1) (x ∷ used) p (rw (below, q) at e) in
+    (λ q. absurd (Option·none-ne-some i (sym (rw (below, q) at first))))
+    (λ q. let rest = fault-room n (i + 1) (x ∷ used) p (rw (below, q) at first) in
     by-eq y x
     (λ s. rw s (omega (arith, hit-le x x, rest x, room-used n x used, room-free n x used below q)))
     (λ d. omega (arith, hit-other y x d, rest y, room-other n x y used d))))
-    (λ q. absurd (Option·none-ne-some i (sym (rw q at e))))
+    (λ q. absurd (Option·none-ne-some i (sym (rw q at first))))
 
 room-fault : (n i : ℕ) (used p : List ℕ) → ((y : ℕ) → occurs y p ≤ room n used y) → permutationFault n i used p ≡ none
 unfolding permutationFault occurs
 room-fault n i used [] h = refl
 room-fault n i used (x ∷ p) h =
     let first = free-room n x used (omega (arith, h x, hit-same x x refl)) in
-    rw (first .0, first .1)
+    value-step n i used x p ∙ rw (first .0, first .1)
     (room-fault n (i + 1) (x ∷ used) p (λ y.
     by-eq y x
     (λ s. rw s (omega (arith, h x, hit-same x x refl, room-free n x used (first .0) (first .1), room-used n x used)))

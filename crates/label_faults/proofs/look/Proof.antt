@@ -45,7 +45,9 @@ returns c = let at-if1 = c .before .before .before in
     look-large (at-loop .loop .inv) (at-loop-test .loop-test .taken) (sym (at-digit .digit .ensures) ∙ at-if1 .if1 .taken) (c .before .before .next-start .ensures) (c .before .next-number .ensures) (c .if2 .taken)
 
 slice-read-if4 : tie.Need-slice-read-if4 Inv-loop μ-loop
-slice-read-if4 c = let L = c .before .before .before .before .before .before .loop .inv in omega (arith, number-small L (c .before .before .before .before .before .loop-test .taken) (sym (c .before .before .before .digit .ensures) ∙ c .before .before .if1 .left) (c .before .if3 .taken), L .room)
+slice-read-if4 c = let turn = c .before .before .before .before .before in
+    let L = turn .before .loop .inv in
+    omega (arith, number-small L (turn .loop-test .taken) (sym (c .before .before .before .digit .ensures) ∙ c .before .before .if1 .left) (c .before .if3 .taken), L .marks .size)
 
 same-length-2 : tie.Need-same-length-2 Inv-loop μ-loop
 same-length-2 c = search needs
@@ -62,7 +64,7 @@ slice-write-used c = let at-if1 = c .before .before .before in
     let at-digit = c .before .before .before .before in
     let at-loop-test = c .before .before .before .before .before .before in
     let at-loop = c .before .before .before .before .before .before .before in
-    let L = at-loop .loop .inv in omega (arith, number-small L (at-loop-test .loop-test .taken) (sym (at-digit .digit .ensures) ∙ at-if1 .if1 .left) (c .before .before .if3 .taken), L .room)
+    let L = at-loop .loop .inv in omega (arith, number-small L (at-loop-test .loop-test .taken) (sym (at-digit .digit .ensures) ∙ at-if1 .if1 .left) (c .before .before .if3 .taken), L .marks .size)
 
 add-at : tie.Need-add-at Inv-loop μ-loop
 add-at c = search needs
