@@ -5,13 +5,12 @@ use mathlib.Core.Path.{_≡_, sym, ap, subst, _∙_}
 use Prim.Native.Nat.{ℕ, _+_, _*_, _≤_, _<_}
 use native.Mathlib.Omega.{arith}
 use native.Mathlib.Numerals.{add-one}
-use lib.ListN.{length, getD, take, set, length-set}
+use lib.ListN.{length, getD, take, set}
 use lib.Seq.{take-suc, length-take-le, take-all}
 use Rattle.rules.specs.Vector.{Valid, entry, bound}
 use Rattle.rules.specs.Newick.{digits}
 use Rattle.rules.specs.Listing.{commaed}
 use Rattle.digits.specs.Wrote.{Wrote, wrote-same, wrote-behind}
-use Rattle.digits.specs.Count.{digits-at-most}
 use Rattle.listing_front.specs.Commas.{commaed-at-most, commaed-more}
 
 -- every entry has at most four digits
@@ -69,9 +68,6 @@ module _ {v : List ℕ} {at : ℕ} {before : List ℕ} where
     -- there is room for a comma and the next entry
     pub listed-room : i < length v → x + 5 ≤ length after
     listed-room h = omega (arith, listed-length, listed-same, L .room)
-
-    pub entry-room : (y : ℕ) → i < length v → x + 1 + length (digits 4 y) ≤ length (set after x 44)
-    entry-room y h = omega (arith, listed-room h, digits-at-most 4 y, length-set after x 44)
 
     pub listed-end : length v ≤ i → Wrote (commaed v) at before after x
     listed-end h = subst (λ (u : List ℕ). Wrote (commaed u) at before after x) (take-all i v h) (L .wrote)

@@ -103,33 +103,36 @@ module _ {n : ℕ} {left right words : List ℕ} {k : ℕ} {text : List ℕ} {at
     pub open-room : at < signPlaces
     open-room = omega (arith, pair-room)
 
-    pub first-room : NodeRoom n left right words l (set text at 40) (at + 1)
-    first-room = record { given = W; there = omega (arith, left-child, P .there); whole = length-set text at 40 ∙ P .whole; room = omega (arith, pair-room) }
+    -- there is room whatever the signs are that stand between the children
+    pub first-room : {opened : List ℕ} → length opened ≡ length text → NodeRoom n left right words l opened (at + 1)
+    first-room e = record { given = W; there = omega (arith, left-child, P .there); whole = e ∙ P .whole; room = omega (arith, pair-room) }
 
-    module _ {text₁ : List ℕ} {x : ℕ} (F : Stands (textAt l) (at + 1) (set text at 40) text₁ x) where
-      pub first-whole : length text₁ ≡ signPlaces
-      first-whole = F .whole ∙ length-set text at 40 ∙ P .whole
-
+    module _ {opened text₁ : List ℕ} {x : ℕ} (F : Stands (textAt l) (at + 1) opened text₁ x) where
       pub comma-room : x < signPlaces
       comma-room = omega (arith, pair-room, F .end)
 
-      pub second-room : NodeRoom n left right words r (set text₁ x 44) (x + 1)
-      second-room = record { given = W; there = omega (arith, right-child, P .there); whole = length-set text₁ x 44 ∙ first-whole; room = omega (arith, pair-room, F .end) }
+      pub second-room : {next : List ℕ} → length opened ≡ length text → length next ≡ length text₁ → NodeRoom n left right words r next (x + 1)
+      second-room e f =
+          record { given = W; there = omega (arith, right-child, P .there); whole = f ∙ F .whole ∙ e ∙ P .whole; room = omega (arith, pair-room, F .end) }
+
+      pub close-room : {next text₂ : List ℕ} {y : ℕ} → Stands (textAt r) (x + 1) next text₂ y → y < signPlaces
+      close-room S = omega (arith, pair-room, F .end, S .end)
+
+    module _ {text₁ : List ℕ} {x : ℕ} (F : Stands (textAt l) (at + 1) (set text at 40) text₁ x) where
+      first-whole : length text₁ ≡ signPlaces
+      first-whole = F .whole ∙ length-set text at 40 ∙ P .whole
 
       module _ {text₂ : List ℕ} {y : ℕ} (S : Stands (textAt r) (x + 1) (set text₁ x 44) text₂ y) where
-        pub second-whole : length text₂ ≡ signPlaces
+        second-whole : length text₂ ≡ signPlaces
         second-whole = S .whole ∙ length-set text₁ x 44 ∙ first-whole
-
-        pub close-room : y < signPlaces
-        close-room = omega (arith, pair-room, F .end, S .end)
 
         pub pair-stands : Stands (textAt k) at text (set text₂ y 41) (y + 1)
         unfolding pairText
         pair-stands =
             subst (λ (w : List ℕ). Stands w at text (set text₂ y 41) (y + 1)) (sym pair-text)
             (stands-then (stands-sign text at 40 (omega (arith, open-room, P .whole)))
-            (stands-then F (stands-then (stands-sign text₁ x 44 (omega (arith, comma-room, first-whole)))
-            (stands-then S (stands-sign text₂ y 41 (omega (arith, close-room, second-whole)))))))
+            (stands-then F (stands-then (stands-sign text₁ x 44 (omega (arith, comma-room F, first-whole)))
+            (stands-then S (stands-sign text₂ y 41 (omega (arith, close-room F S, second-whole)))))))
 
 -- the whole text
 module _ {n : ℕ} {left right words text : List ℕ} (T : TextRoom n left right words text) where

@@ -3,9 +3,9 @@ use native.Mathlib.Omega.{arith}
 use borrow.Author.Needs.{needs}
 use mathlib.Core.List.{List}
 use Prim.Native.Nat.{ℕ, _-_}
-use lib.ListN.{length}
+use lib.ListN.{length, length-set}
 use Rattle.digits.specs.Count.{digits-at-most}
-use Rattle.listing_front.proofs.Commas.{Listed, listed-start, listed-next, listed-end, listed-same, listed-room, entry-room, entry-small}
+use Rattle.listing_front.proofs.Commas.{Listed, listed-start, listed-next, listed-end, listed-same, listed-room, entry-small}
 use Rattle.listing_front.proofs.write_entries.Statement.{statement}
 use Rattle.listing_front.proofs.write_entries.Tie as tie
 
@@ -64,7 +64,7 @@ write-label-requires-2 : tie.Need-write-label-requires-2 Inv-loop μ-loop
 write-label-requires-2 c κs =
     let turn = c .before .before .before in
     let L = here (turn .before) in
-    (rw (c .before .wide2 .ensures) (entry-small _ _ (L .valid) (L .few) (turn .loop-test .taken)), entry-room L _ (turn .loop-test .taken))
+    (rw (c .before .wide2 .ensures) (entry-small _ _ (L .valid) (L .few) (turn .loop-test .taken)), simp length-set (omega (arith, listed-room L (turn .loop-test .taken), digits-at-most 4 (c .before .wide2 .result))))
 
 add-i : tie.Need-add-i Inv-loop μ-loop
 add-i c = search needs

@@ -1,5 +1,7 @@
 -- `write_line` meets its contract: the front, the text and the line end stand one behind another, and the line fits.
 use native.Mathlib.Omega.{arith}
+use mathlib.Core.Path.{_∙_}
+use lib.ListN.{length-set}
 use Rattle.digits.specs.Wrote.{wrote-same}
 use Rattle.listing_line.proofs.Parts.{line-written, text-room, end-room}
 use Rattle.listing_line.proofs.write_line.Statement.{statement}
@@ -31,7 +33,8 @@ add-result c =
 same-length : tie.Need-same-length
 same-length c =
     let text = c .before .before in
-    wrote-same (line-written _ (text .before .before .before .before .write-front .ensures) (text .write-text .ensures))
+    let front = text .before .before .before .before in
+    simp length-set (wrote-same (text .write-text .ensures) ∙ wrote-same (front .write-front .ensures))
 
 returns : tie.Need-returns
 returns c =

@@ -1,5 +1,6 @@
 use native.Mathlib.Omega.{arith}
 use borrow.Author.Needs.{needs}
+use lib.ListN.{length-set}
 use Rattle.text_writer.proofs.Nodes.{leaf-room, leaf-end, leaf-wrote, left-child, right-child, word-fits, first-room, comma-room, second-room, close-room, pair-stands}
 use Prim.Native.Nat.{ℕ, _<_}
 use borrow.Fn.Kinds.{In}
@@ -70,13 +71,13 @@ write-node-write-node-requires : (t : ℕ) → write-node-lts.Need-write-node-re
 write-node-write-node-requires t c κs =
     let pair = c .before .before .if1 .left in
     let (n, left, right, P) = c .before .before .before .before .pre .1 in
-    (omega (arith, left-child P pair), (n, left, right, first-room P pair))
+    (omega (arith, left-child P pair), (n, left, right, first-room P pair (simp length-set)))
 
 write-node-element-write-text-2 : (t : ℕ) → write-node-lts.Need-element-write-text-2 (calls t) (write-node-at t) write-node.Post
 write-node-element-write-text-2 t c =
     let pair = c .before .before .before .if1 .left in
     let (n, left, right, P) = c .before .before .before .before .before .pre .1 in
-    comma-room P pair (c .write-node .ensures n left right (first-room P pair))
+    comma-room P pair (c .write-node .ensures n left right (first-room P pair (simp length-set)))
 
 write-node-cast-write-node-2 : (t : ℕ) → write-node-lts.Need-cast-write-node-2 (calls t) (write-node-at t) write-node.Post
 write-node-cast-write-node-2 t c = omega (arith, word-fits (c .before .before .before .before .before .pre .1 .3) (c .before .before .before .if1 .left))
@@ -85,35 +86,35 @@ write-node-add-write-node-2 : (t : ℕ) → write-node-lts.Need-add-write-node-2
 write-node-add-write-node-2 t c =
     let pair = c .before .before .before .before .if1 .left in
     let (n, left, right, P) = c .before .before .before .before .before .before .pre .1 in
-    omega (arith, comma-room P pair (c .before .write-node .ensures n left right (first-room P pair)))
+    omega (arith, comma-room P pair (c .before .write-node .ensures n left right (first-room P pair (simp length-set))))
 
 write-node-write-node-requires-2 : (t : ℕ) → write-node-lts.Need-write-node-requires-2 (calls t) (write-node-at t) write-node.Post
 write-node-write-node-requires-2 t c κs =
     let pair = c .before .before .before .before .if1 .left in
     let (n, left, right, P) = c .before .before .before .before .before .before .pre .1 in
-    let first = c .before .write-node .ensures n left right (first-room P pair) in
-    (omega (arith, right-child P pair), (n, left, right, second-room P pair first))
+    let first = c .before .write-node .ensures n left right (first-room P pair (simp length-set)) in
+    (omega (arith, right-child P pair), (n, left, right, second-room P pair first (simp length-set) (simp length-set)))
 
 write-node-element-write-text-3 : (t : ℕ) → write-node-lts.Need-element-write-text-3 (calls t) (write-node-at t) write-node.Post
 write-node-element-write-text-3 t c =
     let pair = c .before .before .before .before .before .if1 .left in
     let (n, left, right, P) = c .before .before .before .before .before .before .before .pre .1 in
-    let first = c .before .before .write-node .ensures n left right (first-room P pair) in
-    close-room P pair first (c .write-node2 .ensures n left right (second-room P pair first))
+    let first = c .before .before .write-node .ensures n left right (first-room P pair (simp length-set)) in
+    close-room P pair first (c .write-node2 .ensures n left right (second-room P pair first (simp length-set) (simp length-set)))
 
 write-node-add-result-2 : (t : ℕ) → write-node-lts.Need-add-result-2 (calls t) (write-node-at t) write-node.Post
 write-node-add-result-2 t c =
     let pair = c .before .before .before .before .before .if1 .left in
     let (n, left, right, P) = c .before .before .before .before .before .before .before .pre .1 in
-    let first = c .before .before .write-node .ensures n left right (first-room P pair) in
-    omega (arith, close-room P pair first (c .write-node2 .ensures n left right (second-room P pair first)))
+    let first = c .before .before .write-node .ensures n left right (first-room P pair (simp length-set)) in
+    omega (arith, close-room P pair first (c .write-node2 .ensures n left right (second-room P pair first (simp length-set) (simp length-set))))
 
 write-node-returns-2 : (t : ℕ) → write-node-lts.Need-returns-2 (calls t) (write-node-at t) write-node.Post
 write-node-returns-2 t c =
     λ n left right P.
     let pair = c .before .before .before .before .before .if1 .left in
-    let first = c .before .before .write-node .ensures n left right (first-room P pair) in
-    pair-stands P pair first (c .write-node2 .ensures n left right (second-room P pair first))
+    let first = c .before .before .write-node .ensures n left right (first-room P pair (simp length-set)) in
+    pair-stands P pair first (c .write-node2 .ensures n left right (second-room P pair first (simp length-set) (simp length-set)))
 
 pub +write-node-spec : {M : Type 1} → statement M
 +write-node-spec = close μ-write-node λ t. write-node-lts.spec (calls t)
