@@ -14,11 +14,11 @@ use Rattle.rules.specs.Tree.{Tree, leaf, node, has, least, Distinct, Clusters}
 use Rattle.rules.specs.Table.{Row, nodesOf, tableTree}
 use Rattle.basics.specs.Bools.{or-false}
 use Rattle.clades.specs.Leaves.{has-left, has-right, has-cases, least-has, least-apart}
-use Rattle.table_laws.specs.Nodes.{noded}
-use Rattle.rows.specs.Larger.{Pair, lesser, top-has, pair-has, pair-above, top-left, top-right}
-use Rattle.rows.specs.Count.{last-or-before, count, count-pos, count-without}
-use Rattle.rows.specs.Forest.{namedAlso, namedIn, RowOk, Forest, forest-start, forest-next, forest-end, named-snoc, nodes-snoc, named-no}
-use Rattle.rows.specs.Chains.{lowest, chain, Smaller, In, Bounded, in-left, chain-own, chain-other, chain-in, lowest-starts}
+use Rattle.written_tables.specs.Nodes.{noded}
+use Rattle.read_tables.specs.Larger.{Pair, lesser, top-has, pair-has, pair-above, top-left, top-right}
+use Rattle.read_tables.specs.Count.{last-or-before, count, count-pos, count-without}
+use Rattle.read_tables.specs.Forest.{namedAlso, namedIn, RowOk, Forest, forest-start, forest-next, forest-end, named-snoc, nodes-snoc, named-no}
+use Rattle.read_tables.specs.Chains.{lowest, chain, Smaller, In, Bounded, in-left, chain-own, chain-other, chain-in, lowest-starts}
 use Rattle.chains.specs.Key.{noKey}
 use Rattle.chains.specs.Walk.{cell, ChainIs, last-cases, chain-kept, chain-more}
 use Rattle.chains.specs.Chain.{one-chain, smaller-cong, chain-of-left, chain-of-right}

@@ -11,8 +11,8 @@ use lib.ListN.{length, length-append}
 use borrow.Author.Tests.{eqb-true, eqb-false}
 use Rattle.rules.specs.Tree.{Tree, leaf, node, has, least, size, Distinct}
 use Rattle.clades.specs.Leaves.{least-apart}
-use Rattle.rows.specs.Larger.{Pair, pair-has, pair-apart, top-left, top-right}
-use Rattle.rows.specs.Chains.{lowest, chain, falling, Smaller, In, Bounded, bounded-left, bounded-right, in-cases, chain-own, chain-other, chain-in, chain-none}
+use Rattle.read_tables.specs.Larger.{Pair, pair-has, pair-apart, top-left, top-right}
+use Rattle.read_tables.specs.Chains.{lowest, chain, falling, Smaller, In, Bounded, bounded-left, bounded-right, in-cases, chain-own, chain-other, chain-in, chain-none}
 
 -- a tree has fewer pairs than leaves
 pub chain-short : (m : ℕ) (t : Tree) (k : ℕ) → length (chain m t k) < size t

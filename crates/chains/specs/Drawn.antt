@@ -4,7 +4,7 @@ use mathlib.Core.List.{List}
 use Prim.Native.Nat.{ℕ, _≤_, _<_}
 use lib.ListN.{length}
 use Rattle.rules.specs.Tree.{Tree, LeavesBelow}
-use Rattle.rows.specs.Chains.{chain, Smaller}
+use Rattle.read_tables.specs.Chains.{chain, Smaller}
 use Rattle.chains.specs.Key.{noKey}
 use Rattle.chains.specs.Walk.{cell, ChainIs}
 

@@ -9,7 +9,7 @@ use native.Mathlib.Omega.{arith}
 use lib.Dec.{eqb}
 use lib.ListN.{length, getD}
 use borrow.Author.Tests.{eq-eqb, ne-eqb}
-use Rattle.rows.specs.Chains.{In}
+use Rattle.read_tables.specs.Chains.{In}
 
 -- what stands in an array
 abbrev pub cell : List ℕ → ℕ → ℕ

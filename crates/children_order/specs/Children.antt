@@ -11,7 +11,7 @@ use lib.ListN.{length, getD, take, drop, length-take, take-append-drop}
 use lib.Seq.{take-suc, drop-cons, take-all}
 use Rattle.rules.specs.Tree.{Tree}
 use Rattle.rules.specs.Table.{Row, rowFault, tableFault, tableTree}
-use Rattle.rows.specs.Forest.{RowOk, fault-append, fault-none, fault-step}
+use Rattle.read_tables.specs.Forest.{RowOk, fault-append, fault-none, fault-step}
 use Rattle.chains.specs.Walk.{cell}
 use Rattle.chains.specs.Built.{taken, Built, Adds, built-end}
 use Rattle.chains.specs.Drawn.{Drawn}

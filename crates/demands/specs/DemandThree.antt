@@ -18,9 +18,9 @@ use Rattle.rules.specs.Answer.{Made, made}
 use Rattle.rules.specs.CallCheck.{check}
 use Rattle.rules.specs.CallFromTable.{fromTable}
 use Rattle.rules.specs.CallFromNewick.{FromText, too-long, breaks, reads-as, fromLabels}
-use Rattle.table_laws.specs.Flat.{rowsOf-length}
-use Rattle.rows.specs.Forest.{rows-make-a-tree}
-use Rattle.rows.specs.Clades.{rows-clades}
+use Rattle.written_tables.specs.Flat.{rowsOf-length}
+use Rattle.read_tables.specs.Forest.{rows-make-a-tree}
+use Rattle.read_tables.specs.Clades.{rows-clades}
 use Rattle.record_laws.specs.FromRecord.{only-accepted, unpacked-vector}
 use Rattle.grammar.specs.Complete.{text-unique}
 use Rattle.grammar.specs.Faults.{no-fault-leaves}

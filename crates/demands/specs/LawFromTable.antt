@@ -14,8 +14,8 @@ use Rattle.rules.specs.Guards.{refuseFault, refuseCount, refuseLength}
 use Rattle.rules.specs.Promise.{list}
 use Rattle.rules.specs.CallFromTable.{fromTable, from-table-call}
 use Rattle.clades.specs.Size.{size-below}
-use Rattle.table_laws.specs.Flat.{rowsOf-length}
-use Rattle.rows.specs.Forest.{rows-make-a-tree}
+use Rattle.written_tables.specs.Flat.{rowsOf-length}
+use Rattle.read_tables.specs.Forest.{rows-make-a-tree}
 use Rattle.searching.specs.First.{first-at, nowhere}
 use Rattle.accepting.specs.Guards.{wrong-length, right-length}
 use Rattle.demands.specs.Conditions.{CountWrong, CountRight, FirstRow, RowWrong, parent-wrong, child-not-below, child-named}

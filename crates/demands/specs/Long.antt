@@ -12,7 +12,7 @@ use Rattle.rules.specs.Table.{tableRows, tableOf}
 use Rattle.rules.specs.Shuffle.{renamed, newOf}
 use Rattle.basics.specs.Listed.{length-listed}
 use Rattle.building.specs.Built.{merges-length}
-use Rattle.table_laws.specs.Rows.{table-length}
+use Rattle.written_tables.specs.Rows.{table-length}
 use Rattle.laws.specs.TreeOf.{tree-size}
 
 -- a row for each merge, three numbers for each row

@@ -16,13 +16,13 @@ use Rattle.merging.specs.Rest.{rising-first}
 use Rattle.building.specs.Built.{merges-length}
 use Rattle.building.specs.InOrder.{InOrder, merges-in-order}
 use Rattle.growing.specs.Grown.{least-grown}
-use Rattle.table_laws.specs.Flat.{rowsOf-flat}
-use Rattle.table_laws.specs.Nodes.{accepted-stands, stands-row}
-use Rattle.table_laws.specs.Rows.{rows-length, parent-at}
-use Rattle.table_laws.specs.Accepted.{table-accepted}
-use Rattle.table_laws.specs.Grown.{same-start, row-clusters, table-tree}
-use Rattle.rows.specs.Forest.{forest-table}
-use Rattle.rows.specs.Clades.{under-has, has-under}
+use Rattle.written_tables.specs.Flat.{rowsOf-flat}
+use Rattle.written_tables.specs.Nodes.{accepted-stands, stands-row}
+use Rattle.written_tables.specs.Rows.{rows-length, parent-at}
+use Rattle.written_tables.specs.Accepted.{table-accepted}
+use Rattle.written_tables.specs.Grown.{same-start, row-clusters, table-tree}
+use Rattle.read_tables.specs.Forest.{forest-table}
+use Rattle.read_tables.specs.Clades.{under-has, has-under}
 use Rattle.laws.specs.FactOne.{fact-one-at-each-step, complete-larger-name}
 use Rattle.demands.specs.Conditions.{rowAt}
 

@@ -13,8 +13,8 @@ use lib.Seq.{getD-set-same, getD-set-other, drop-set-lt}
 use borrow.Author.Tests.{eqb-true, eqb-false, ne-eqb, lt-ltb}
 use Rattle.rules.specs.Order.{earlier, entryFrom, entryAt, listed}
 use Rattle.basics.specs.Bools.{or-cases}
-use Rattle.rows.specs.Count.{bit, count, count-none}
-use Rattle.rows.specs.Chains.{falling, mergesOf, In, Apart, Starts, in-left, in-right, in-cases}
+use Rattle.read_tables.specs.Count.{bit, count, count-none}
+use Rattle.read_tables.specs.Chains.{falling, mergesOf, In, Apart, Starts, in-left, in-right, in-cases}
 use Rattle.ranks.specs.Ranks.{Ranks, also, count-also, count-le, ranks-none}
 use Rattle.chains.specs.Walk.{cell, Walk, ChainIs, chain-pos, far, far-is}
 use Rattle.entries.specs.Entries.{lessIn, less-snoc, less-none, less-some, partner-is, earlier-is, none-earlier, listed-from}

@@ -13,8 +13,8 @@ use borrow.Author.Tests.{eqb-true, eq-eqb, ne-eqb, ltb-true, lt-ltb, le-ltb}
 use Rattle.rules.specs.Order.{earlier, partner, listed}
 use Rattle.basics.specs.Bools.{and-false}
 use Rattle.basics.specs.Listed.{length-listed, listed-at}
-use Rattle.rows.specs.Count.{bit}
-use Rattle.rows.specs.Chains.{mergesOf, In}
+use Rattle.read_tables.specs.Count.{bit}
+use Rattle.read_tables.specs.Chains.{mergesOf, In}
 use Rattle.chains.specs.Walk.{cell}
 
 -- how many elements of the list are below x

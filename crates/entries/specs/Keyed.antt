@@ -7,8 +7,8 @@ use mathlib.Core.List.{List}
 use Prim.Native.Nat.{ℕ, _+_, _-_, _≤_, _<_}
 use native.Mathlib.Omega.{arith}
 use lib.ListN.{length, set, length-set}
-use Rattle.rows.specs.Count.{count}
-use Rattle.rows.specs.Chains.{falling}
+use Rattle.read_tables.specs.Count.{count}
+use Rattle.read_tables.specs.Chains.{falling}
 use Rattle.ranks.specs.Ranks.{Ranks, also}
 use Rattle.chains.specs.Walk.{cell, far}
 use Rattle.entries.specs.Entered.{MadeFrom, Entered, Holding, Headed, key-room, entered-skip, entered-head, headed-end, headed-room, headed-ranked, headed-few, headed-less, headed-next}

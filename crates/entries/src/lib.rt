@@ -1,7 +1,7 @@
 // The entries of a vector from the chains of its tree, which are walked by falling key.
 
 ghost use Prim.Native.Nat.{_+_};
-ghost use Rattle.rows.specs.Chains.{falling};
+ghost use Rattle.read_tables.specs.Chains.{falling};
 ghost use Rattle.steps.specs.Steps.{Steps};
 ghost use Rattle.chains.specs.Walk.{cell};
 ghost use Rattle.entries.specs.Entered.{MadeFrom, Headed, Entered};

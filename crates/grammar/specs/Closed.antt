@@ -16,7 +16,7 @@ use Rattle.basics.specs.Bools.{or-no, or-false}
 use Rattle.basics.specs.Cases.{by-test}
 use Rattle.clades.specs.Leaves.{has-left, has-right}
 use Rattle.clades.specs.Size.{size-below}
-use Rattle.table_laws.specs.Tied.{tied, tied-length}
+use Rattle.written_tables.specs.Tied.{tied, tied-length}
 use Rattle.grammar.specs.Pairs.{pairCount, childCode, pairsFrom, pairs-length, size-pairs}
 
 -- a child's number among n leaves: a label is a leaf, pair number k is node n + k

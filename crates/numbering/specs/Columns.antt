@@ -7,7 +7,7 @@ use native.Mathlib.Omega.{arith}
 use lib.ListN.{length, drop, getD, set, length-map, length-set, List·getD-map}
 use lib.Seq.{take-all}
 use Rattle.lists.specs.Front.{mix, mix-start, mix-step}
-use Rattle.table_laws.specs.Rows.{first, second}
+use Rattle.written_tables.specs.Rows.{first, second}
 use Rattle.numbering.specs.Numbered.{heldRows, rows-long, BeforeRows, Numbered, numbered-start, numbered-next, row-at}
 
 -- the children of the first t rows are written

@@ -18,7 +18,7 @@ use Rattle.merging.specs.Greedy.{under-pairs}
 use Rattle.merging.specs.Named.{rising}
 use Rattle.merges.specs.Room.{listRoom}
 use Rattle.merges.specs.Held.{held, merge-at}
-use Rattle.table_laws.specs.Rows.{vectorRows, Inside, inside, inside-drop, inside-at, rows-length, rows-cong}
+use Rattle.written_tables.specs.Rows.{vectorRows, Inside, inside, inside-drop, inside-at, rows-length, rows-cong}
 
 -- the merges that the two lists hold
 unfoldable pub heldMerges : List ℕ → List ℕ → ℕ → ℕ → List Merge

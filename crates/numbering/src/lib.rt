@@ -4,7 +4,7 @@ ghost use mathlib.Core.Path.{_≡_};
 ghost use mathlib.Core.List.{_++_, map};
 ghost use Prim.Native.Nat.{_-_, _≤_};
 ghost use lib.ListN.{length, drop};
-ghost use Rattle.table_laws.specs.Rows.{first, second};
+ghost use Rattle.written_tables.specs.Rows.{first, second};
 ghost use Rattle.numbering.specs.Numbered.{heldRows, BeforeRows};
 use numbers::wide;
 

@@ -11,10 +11,10 @@ use Rattle.rules.specs.Building.{Merge}
 use Rattle.rules.specs.Tree.{Tree, has}
 use Rattle.rules.specs.Order.{entryAt, listed, vectorOf}
 use Rattle.clades.specs.Leaves.{least-le}
-use Rattle.rows.specs.Larger.{Pair, pair-has, pair-of}
+use Rattle.read_tables.specs.Larger.{Pair, pair-has, pair-of}
 use Rattle.clades.specs.Size.{size-below}
-use Rattle.rows.specs.Chains.{chain, falling, mergesOf, In, Apart, Bounded, chain-starts, chain-none, falling-in, in-falling}
-use Rattle.rows.specs.Falls.{order-falls, falling-apart}
+use Rattle.read_tables.specs.Chains.{chain, falling, mergesOf, In, Apart, Bounded, chain-starts, chain-none, falling-in, in-falling}
+use Rattle.read_tables.specs.Falls.{order-falls, falling-apart}
 use Rattle.chains.specs.Key.{noKey}
 use Rattle.chains.specs.Walk.{cell}
 use Rattle.chains.specs.Drawn.{Drawn}

@@ -10,7 +10,7 @@ use native.Mathlib.Omega.{arith}
 use lib.Dec.{eqb, ltb}
 use lib.ListN.{length, getD, replicate, length-replicate, getD-replicate}
 use borrow.Author.Tests.{eqb-true, eqb-false, ltb-true, ltb-false, lt-ltb, le-ltb}
-use Rattle.rows.specs.Count.{bit, count, count-none, count-or}
+use Rattle.read_tables.specs.Count.{bit, count, count-none, count-or}
 use Rattle.steps.specs.Steps.{Added}
 
 -- blocks has how many members are below each block, names how many of its block are below each name

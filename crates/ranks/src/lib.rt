@@ -6,7 +6,7 @@
 ghost use mathlib.Core.Path.{_≡_};
 ghost use mathlib.Core.Bool.{Bool, false};
 ghost use Prim.Native.Nat.{ℕ, _+_, _<_};
-ghost use Rattle.rows.specs.Count.{count};
+ghost use Rattle.read_tables.specs.Count.{count};
 ghost use Rattle.steps.specs.Steps.{Steps};
 ghost use Rattle.ranks.specs.Ranks.{Ranks, also};
 

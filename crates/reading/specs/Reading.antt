@@ -16,11 +16,11 @@ use Rattle.rules.specs.Tree.{least}
 use Rattle.rules.specs.Table.{Row, rowsOf, namedTwice, rowFault, tableFault}
 use Rattle.basics.specs.Bools.{or-cases}
 use Rattle.clades.specs.Leaves.{least-has}
-use Rattle.rows.specs.Forest.{RowOk, namedIn, namedAlso, named-snoc, fault-append, fault-step}
+use Rattle.read_tables.specs.Forest.{RowOk, namedIn, namedAlso, named-snoc, fault-append, fault-step}
 use Rattle.chains.specs.Walk.{cell}
 use Rattle.chains.specs.Built.{taken, nodes, Built, Adds}
-use Rattle.table_laws.specs.Flat.{rowsOf-length}
-use Rattle.table_laws.specs.RowAt.{rowAt, rows-drop, rows-take}
+use Rattle.written_tables.specs.Flat.{rowsOf-length}
+use Rattle.written_tables.specs.RowAt.{rowAt, rows-drop, rows-take}
 use Rattle.row_checks.specs.Mark.{mark}
 use Rattle.row_checks.specs.Verdict.{verdict, verdict-fault, placed, named-verdict, placed-row, in-place}
 

@@ -18,9 +18,9 @@ use Rattle.laws.specs.TreeOf.{tree-by-pairs, tree-leaves}
 use Rattle.shuffle_laws.specs.Permutation.{permutes}
 use Rattle.shuffle_laws.specs.Renaming.{renamed-below}
 use Rattle.shuffle_laws.specs.Rows.{renamedRows, renamed-rows}
-use Rattle.table_laws.specs.Rows.{first, second, rows-length, parent-at}
-use Rattle.table_laws.specs.Accepted.{pairs-accepted}
-use Rattle.table_laws.specs.Grown.{pairs-tree}
+use Rattle.written_tables.specs.Rows.{first, second, rows-length, parent-at}
+use Rattle.written_tables.specs.Accepted.{pairs-accepted}
+use Rattle.written_tables.specs.Grown.{pairs-tree}
 use Rattle.children_order.specs.Children.{Children}
 use Rattle.shuffle_laws.specs.Zipped.{zippedRows, zippedTree, zipped-is, zipped-renamed, getD-zipped, length-zipped}
 use Rattle.renaming.specs.Renames.{renamedTo, renamed-at}

@@ -14,7 +14,7 @@ use Rattle.rules.specs.Tree.{leaf, Clusters}
 use Rattle.rules.specs.Table.{Row, childrenBelow, namedTwice, rowFault, tableFault, nodesOf, tableTree}
 use Rattle.rules.specs.Shuffle.{renamed, permutationFault}
 use Rattle.basics.specs.Cases.{by-lt, by-eq}
-use Rattle.table_laws.specs.Nodes.{noded, Stands, accepted-stands}
+use Rattle.written_tables.specs.Nodes.{noded, Stands, accepted-stands}
 use Rattle.shuffle_laws.specs.Permutation.{Permutes, permutes, entry-below, entry-injective}
 
 -- "leaf x becoming p(x)", by node numbers: a leaf is below n, and other nodes stay

@@ -12,7 +12,7 @@ use Rattle.rules.specs.Table.{Row, tableFault, nodesOf, tableTree}
 use Rattle.clades.specs.Size.{size-below}
 use Rattle.shuffle_laws.specs.Taken.{size-inner}
 use Rattle.clades.specs.Form.{Turned}
-use Rattle.table_laws.specs.Nodes.{leaf-of, node-of, stands-row, accepted-stands}
+use Rattle.written_tables.specs.Nodes.{leaf-of, node-of, stands-row, accepted-stands}
 use Rattle.shuffle_laws.specs.Rows.{renamedChild, renamedRow, renamedRows, length-renamed, getD-renamed, row-renamed}
 
 -- k rows from row t on

@@ -9,7 +9,7 @@ use lib.Dec.{eqb, ltb}
 use lib.ListN.{length, getD, set, length-set, replicate, length-replicate, getD-replicate}
 use lib.Seq.{getD-set-same, getD-set-other}
 use borrow.Author.Tests.{eqb-true, eqb-false, ltb-true, ltb-false, le-ltb}
-use Rattle.rows.specs.Count.{bit}
+use Rattle.read_tables.specs.Count.{bit}
 
 -- ---- the steps
 -- twice width numbers: 0 below width, and 1 from there up to top

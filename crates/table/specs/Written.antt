@@ -10,9 +10,9 @@ use Rattle.rules.specs.Vector.{entry}
 use Rattle.rules.specs.Table.{Row, flat, rowsFrom}
 use Rattle.lists.specs.Front.{mix, mix-start, mix-step}
 use Rattle.merging.specs.Insertion.{pairs, pairs-count}
-use Rattle.table_laws.specs.Flat.{flat-length, flat-first, flat-second, flat-parent}
-use Rattle.table_laws.specs.Rows.{first, second, vectorRows, rows-length, tied-rows}
-use Rattle.table_laws.specs.Tied.{tied, tied-length, tied-at}
+use Rattle.written_tables.specs.Flat.{flat-length, flat-first, flat-second, flat-parent}
+use Rattle.written_tables.specs.Rows.{first, second, vectorRows, rows-length, tied-rows}
+use Rattle.written_tables.specs.Tied.{tied, tied-length, tied-at}
 
 -- the n - 1 rows with these children: the parent of row t is n + t
 unfoldable pub childRows : ℕ → List ℕ → List ℕ → List Row

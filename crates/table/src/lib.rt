@@ -6,7 +6,7 @@ ghost use Prim.Native.Nat.{_-_, _*_, _≤_};
 ghost use lib.ListN.{length, drop};
 ghost use Rattle.rules.specs.Vector.{Valid};
 ghost use Rattle.rules.specs.Table.{flat};
-ghost use Rattle.table_laws.specs.Rows.{vectorRows};
+ghost use Rattle.written_tables.specs.Rows.{vectorRows};
 ghost use Rattle.table.specs.Written.{childRows};
 
 // The rows with these children, three numbers each: the parent of row t is n+t. It is counted in 16 bits, as wide as the rows'

@@ -8,9 +8,9 @@ use lib.ListN.{length, take}
 use lib.Seq.{take-at}
 use Rattle.rules.specs.Order.{vectorOf}
 use Rattle.rules.specs.Table.{rowsOf, tableFault, tableTree}
-use Rattle.rows.specs.Forest.{rows-make-a-tree}
+use Rattle.read_tables.specs.Forest.{rows-make-a-tree}
 use Rattle.laws.specs.OneToOne.{every-tree}
-use Rattle.table_laws.specs.Flat.{rowsOf-length}
+use Rattle.written_tables.specs.Flat.{rowsOf-length}
 
 -- the vector of accepted rows has an entry for each leaf
 pub vector-count : (n : ℕ) (xs : List ℕ) → 1 ≤ n → length xs ≡ 3 * (n - 1) → tableFault n (rowsOf xs) ≡ none → length (vectorOf (tableTree n (rowsOf xs))) ≡ n

@@ -9,7 +9,7 @@ use Rattle.rules.specs.Answer.{made}
 use Rattle.rules.specs.CallToTable.{toTable}
 use Rattle.merging.specs.Insertion.{pairs}
 use Rattle.building.specs.Built.{merges-are-pairs, merges-length}
-use Rattle.table_laws.specs.Rows.{table-length}
+use Rattle.written_tables.specs.Rows.{table-length}
 use Rattle.accepting.specs.FromVector.{Vector, vector-accepted}
 
 pub table-made : (v : List ℕ) → Vector v → toTable v ≡ made (flat (rowsFrom (length v) (λ c. c) (pairs v)))

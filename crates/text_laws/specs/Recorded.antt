@@ -13,7 +13,7 @@ use Rattle.rules.specs.Table.{Row, tableFault, tableTree}
 use Rattle.grammar.specs.Labels.{map-append}
 use Rattle.grammar.specs.Stores.{sets-append}
 use Rattle.grammar.specs.Pairs.{pairCount, childCode, pairsFrom, pairs-length, size-pairs}
-use Rattle.table_laws.specs.Tied.{tied}
+use Rattle.written_tables.specs.Tied.{tied}
 use Rattle.grammar.specs.Closed.{childNumber, closedRows, closed-length, closed-accepted, closed-tree, leaves-small}
 use Rattle.grammar.specs.Bounds.{SecondsBelow, pairs-small}
 use Rattle.clades.specs.Size.{size-below}

@@ -8,7 +8,7 @@ use lib.ListN.{length, getD, take, drop, length-map, length-take, List·getD-app
 use Rattle.rules.specs.Tree.{Tree}
 use Rattle.rules.specs.Table.{Row, tableTree}
 use Rattle.rules.specs.Order.{vectorOf}
-use Rattle.table_laws.specs.Tied.{tied-at}
+use Rattle.written_tables.specs.Tied.{tied-at}
 use Rattle.children_order.specs.Children.{Children}
 use Rattle.text_laws.specs.Numbered.{firstNumber, secondNumber}
 use Rattle.text_laws.specs.Recorded.{TableOf, recordedRows}

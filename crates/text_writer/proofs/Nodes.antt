@@ -9,7 +9,7 @@ use lib.Seq.{sets}
 use borrow.Author.Tests.{lt-ltb}
 use Rattle.rules.specs.Newick.{digits, pairText, nodeText, textOf}
 use Rattle.rules.specs.Tree.{node, least}
-use Rattle.table_laws.specs.Tied.{treeAt, wholeTree, tree-leaf, tree-pair}
+use Rattle.written_tables.specs.Tied.{treeAt, wholeTree, tree-leaf, tree-pair}
 use Rattle.grammar.specs.Length.{pair-length}
 use Rattle.digits.specs.Count.{some-digit, digits-at-most}
 use Rattle.label_words.specs.Words.{wordOf}

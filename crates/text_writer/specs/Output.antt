@@ -6,7 +6,7 @@ use Prim.Native.Nat.{ℕ, _+_, _-_, _*_, _≤_, _<_}
 use lib.ListN.{length, getD, take}
 use Rattle.rules.specs.Newick.{nodeText, textOf}
 use Rattle.rules.specs.Tree.{least}
-use Rattle.table_laws.specs.Tied.{treeAt, wholeTree}
+use Rattle.written_tables.specs.Tied.{treeAt, wholeTree}
 use Rattle.label_words.specs.Leaves.{LeafWords}
 
 -- how many bytes the array has that a text is written to

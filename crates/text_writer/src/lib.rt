@@ -14,7 +14,7 @@ ghost use mathlib.Core.List.{List};
 ghost use lib.ListN.{length};
 ghost use lib.Seq.{sets};
 ghost use Rattle.rules.specs.Newick.{nodeText, textOf};
-ghost use Rattle.table_laws.specs.Tied.{treeAt, wholeTree};
+ghost use Rattle.written_tables.specs.Tied.{treeAt, wholeTree};
 ghost use Rattle.text_writer.specs.Signs.{wordBytes, signCount};
 ghost use Rattle.text_writer.specs.Output.{signPlaces, NodeRoom, TextRoom, Stands};
 

@@ -10,7 +10,7 @@ use Rattle.rules.specs.Tree.{Tree, treeOf}
 use Rattle.rules.specs.Newick.{textOf}
 use Rattle.laws.specs.TreeOf.{tree-leaves}
 use Rattle.grammar.specs.Length.{textLength, text-length, text-length-most}
-use Rattle.table_laws.specs.Tied.{wholeTree}
+use Rattle.written_tables.specs.Tied.{wholeTree}
 use Rattle.text_writer.specs.Output.{signPlaces, TextRoom, Stands}
 use Rattle.node_words.specs.Paired.{Paired, vectorRows}
 use Rattle.tree_text.specs.OrderedRows.{lefts, rights, left-at, right-at, rows-ordered, rows-tree}

@@ -17,10 +17,10 @@ use Rattle.merging.specs.Named.{Good, good, Rising, rising}
 use Rattle.merging.specs.Rest.{rising-first}
 use Rattle.growing.specs.Grown.{least-grown}
 use Rattle.laws.specs.TreeOf.{tree-by-pairs}
-use Rattle.table_laws.specs.Tied.{tied, treeAt, wholeTree, tree-whole}
-use Rattle.table_laws.specs.Rows.{first, second, rows-length, tied-rows}
-use Rattle.table_laws.specs.Accepted.{pairs-below}
-use Rattle.table_laws.specs.Grown.{same-start, row-clusters, pairs-tree}
+use Rattle.written_tables.specs.Tied.{tied, treeAt, wholeTree, tree-whole}
+use Rattle.written_tables.specs.Rows.{first, second, rows-length, tied-rows}
+use Rattle.written_tables.specs.Accepted.{pairs-below}
+use Rattle.written_tables.specs.Grown.{same-start, row-clusters, pairs-tree}
 use Rattle.text_writer.specs.Output.{Ordered}
 use Rattle.node_words.specs.Paired.{vectorRows}
 

@@ -6,7 +6,7 @@ ghost use Prim.Native.Nat.{_-_, _≤_};
 ghost use lib.ListN.{length, drop};
 ghost use Rattle.rules.specs.Vector.{Valid};
 ghost use Rattle.merges.specs.Room.{listRoom};
-ghost use Rattle.table_laws.specs.Rows.{first, second, vectorRows};
+ghost use Rattle.written_tables.specs.Rows.{first, second, vectorRows};
 ghost use Rattle.numbering.specs.Numbered.{heldRows, BeforeRows};
 
 // The merges of v in the lists, and each leaf as its own node. The result is where the list starts.

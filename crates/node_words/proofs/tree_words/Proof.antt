@@ -32,9 +32,13 @@ slice-aggregate-pair-words-3 : tie.Need-slice-aggregate-pair-words-3
 slice-aggregate-pair-words-3 c = search needs
 
 pair-words-requires : tie.Need-pair-words-requires
-pair-words-requires c κs = let p = c .before .before .before .before .before .before .before .before .before .before .before .before .before .before .before .before .before .before .pre in
-    let e = c .before .before .before .before .before .before .before .before .before .before .merges .ensures in
-    (before-rows (p .0) (p .1) (e .0) (e .1) (search needs) (search needs) (search needs) (c .before .before .before .before .before .before .before .before .before .before .before .before .before .before .number-leaves .ensures), c .before .before .before .before .before .before .leaf-words .ensures)
+pair-words-requires c κs =
+    let written = c .before .before .before .before .before .before in
+    let merged = written .before .before .before .before in
+    let numbered = merged .before .before .before .before in
+    let p = numbered .before .before .before .before .pre in
+    let e = merged .merges .ensures in
+    (before-rows (p .0) (p .1) (e .0) (e .1) (search needs) (search needs) (search needs) (numbered .number-leaves .ensures), written .leaf-words .ensures)
 
 same-length : tie.Need-same-length
 same-length c = search needs

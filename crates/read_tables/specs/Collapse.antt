@@ -14,7 +14,7 @@ use Rattle.rules.specs.Tree.{Tree, leaf, node, has, least, size, Distinct}
 use Rattle.rules.specs.Order.{ready, best, isMerge, collapse, ordered, order}
 use Rattle.basics.specs.Bools.{and-left, and-right}
 use Rattle.clades.specs.Leaves.{has-left, has-right, has-cases, least-has}
-use Rattle.rows.specs.Larger.{inner, Pair, top-left, top-right, pair-apart}
+use Rattle.read_tables.specs.Larger.{inner, Pair, top-left, top-right, pair-apart}
 
 -- two parts are complete where they are leaves
 pub ready-leaves : (l r : Tree) → inner l + inner r ≡ 0 → ready l r ≡ some (min (least l) (least r), max (least l) (least r))

@@ -14,9 +14,9 @@ use Rattle.rules.specs.Table.{rowsFrom, nodesOf, tableTree}
 use Rattle.merging.specs.Insertion.{valid-bounded, pairsOf, pairs, pairs-count}
 use Rattle.merging.specs.Greedy.{Under, under-pairs}
 use Rattle.merging.specs.Named.{named, Good, good, smaller-named, larger-named, still-named, named-below}
-use Rattle.table_laws.specs.Nodes.{noded, nodes-keep}
-use Rattle.table_laws.specs.Rows.{vectorRows, renumber, renumber-below, rows-length}
-use Rattle.table_laws.specs.Follows.{nodes-follow, rows-count-up}
+use Rattle.written_tables.specs.Nodes.{noded, nodes-keep}
+use Rattle.written_tables.specs.Rows.{vectorRows, renumber, renumber-below, rows-length}
+use Rattle.written_tables.specs.Follows.{nodes-follow, rows-count-up}
 
 -- Each name that is left has a node below p, and the node's tree is the cluster's; where no merge is left, 0 has the last node.
 pub record Same (P : List Merge) (p : ℕ) (number : ℕ → ℕ) (C D : Clusters) : Type 0 where

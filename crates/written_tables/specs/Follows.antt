@@ -10,8 +10,8 @@ use borrow.Author.Tests.{eqb-true, eqb-false}
 use Rattle.rules.specs.Building.{Merge}
 use Rattle.rules.specs.Table.{rowsFrom}
 use Rattle.merging.specs.Named.{named, still-named}
-use Rattle.table_laws.specs.Nodes.{CountUp}
-use Rattle.table_laws.specs.Rows.{renumber}
+use Rattle.written_tables.specs.Nodes.{CountUp}
+use Rattle.written_tables.specs.Rows.{renumber}
 
 -- What holds of each name and its node before the row, Q, becomes what holds after it, R.
 pub nodes-follow : (Q R : ℕ → ℕ → Type 0) (m : Merge) (P : List Merge) (p : ℕ) (number : ℕ → ℕ) → ((x : ℕ) → named (m ∷ P) x ≡ true → Q x (number x)) → R (m .0) p

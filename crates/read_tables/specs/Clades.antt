@@ -15,9 +15,9 @@ use Rattle.rules.specs.Table.{Row, rowFault, tableFault, nodesOf, tableTree, Un
 use Rattle.rules.specs.Table.Under.{itself, left, right}
 use Rattle.basics.specs.Bools.{or-cases, both}
 use Rattle.clades.specs.Leaves.{has-left, has-right, has-cases}
-use Rattle.rows.specs.Count.{count, count-only}
-use Rattle.table_laws.specs.Nodes.{noded}
-use Rattle.rows.specs.Forest.{namedAlso, namedIn, RowOk, fault-none, forest-table}
+use Rattle.read_tables.specs.Count.{count, count-only}
+use Rattle.written_tables.specs.Nodes.{noded}
+use Rattle.read_tables.specs.Forest.{namedAlso, namedIn, RowOk, fault-none, forest-table}
 
 -- later rows leave the nodes below theirs as they are
 pub nodes-keep : (n t : ℕ) (named : ℕ → Bool) (c : Clusters) (rs : List Row) → rowFault n t named rs ≡ none → (k : ℕ) → k < n + t → nodesOf rs c k ≡ c k

@@ -9,7 +9,7 @@ use lib.ListN.{length, getD, take, length-take}
 use lib.Seq.{getD-take}
 use Rattle.rules.specs.Tree.{Tree, leaf, node}
 use Rattle.rules.specs.Table.{Row, nodesOf, tableTree}
-use Rattle.table_laws.specs.Nodes.{CountUp, nodes-keep, nodes-row}
+use Rattle.written_tables.specs.Nodes.{CountUp, nodes-keep, nodes-row}
 
 -- rows with these children, whose parents count up from p
 unfoldable pub tied : ℕ → List ℕ → List ℕ → List Row

@@ -15,9 +15,9 @@ use Rattle.rules.specs.Table.{rowsFrom, rowFault, tableFault, childrenBelow, na
 use Rattle.merging.specs.Insertion.{valid-bounded, pairsOf, pairs, pairs-count}
 use Rattle.merging.specs.Greedy.{Under, under-pairs}
 use Rattle.merging.specs.Named.{named, Good, good, smaller-named, larger-named, still-named, not-larger, named-below}
-use Rattle.table_laws.specs.Nodes.{accepted-stands, stands-row}
-use Rattle.table_laws.specs.Rows.{vectorRows, renumber, renumber-same, renumber-other, renumber-below, rows-length}
-use Rattle.table_laws.specs.Follows.{nodes-follow}
+use Rattle.written_tables.specs.Nodes.{accepted-stands, stands-row}
+use Rattle.written_tables.specs.Rows.{vectorRows, renumber, renumber-same, renumber-other, renumber-below, rows-length}
+use Rattle.written_tables.specs.Follows.{nodes-follow}
 
 -- The names that are left have nodes of their own: below p, and named by no row so far.
 pub record Fresh (P : List Merge) (p : ℕ) (number : ℕ → ℕ) (used : ℕ → Bool) : Type 0 where

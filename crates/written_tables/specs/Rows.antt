@@ -14,8 +14,8 @@ use Rattle.rules.specs.Table.{Row, rowsFrom, flat}
 use Rattle.merging.specs.Insertion.{pairs}
 use Rattle.merging.specs.Greedy.{Under}
 use Rattle.merging.specs.Named.{Rising}
-use Rattle.table_laws.specs.Flat.{flat-length}
-use Rattle.table_laws.specs.Tied.{tied}
+use Rattle.written_tables.specs.Flat.{flat-length}
+use Rattle.written_tables.specs.Tied.{tied}
 
 -- the children of a row
 abbrev pub first : Row → ℕ

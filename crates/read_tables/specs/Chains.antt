@@ -11,8 +11,8 @@ use borrow.Author.Tests.{eqb-true, eqb-false, eq-eqb, ne-eqb}
 use Rattle.rules.specs.Building.{Merge}
 use Rattle.rules.specs.Tree.{Tree, leaf, node, has, least, Distinct}
 use Rattle.clades.specs.Leaves.{has-left, has-right}
-use Rattle.rows.specs.Larger.{Pair, lesser, top-has, top-left, top-right, pair-apart}
-use Rattle.rows.specs.Count.{last-or-before}
+use Rattle.read_tables.specs.Larger.{Pair, lesser, top-has, top-left, top-right, pair-apart}
+use Rattle.read_tables.specs.Count.{last-or-before}
 
 -- the least larger name of a tree's pairs, and m where it has no pair
 unfoldable pub lowest : ℕ → Tree → ℕ

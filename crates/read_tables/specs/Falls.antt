@@ -13,9 +13,9 @@ use borrow.Author.Tests.{eqb-true, eqb-false, ne-eqb, lt-ltb, le-ltb}
 use Rattle.rules.specs.Building.{Merge}
 use Rattle.rules.specs.Tree.{Tree, leaf, node, least, size, Distinct}
 use Rattle.rules.specs.Order.{ready, greater, best, collapse, order}
-use Rattle.rows.specs.Larger.{inner, Pair, top-has, top-left, top-right, pair-apart}
-use Rattle.rows.specs.Collapse.{ready-leaves, merge-true, collapse-here, collapse-least, collapse-has, collapse-distinct, collapse-left, collapse-right, size-leaf, order-step, order-leaf}
-use Rattle.rows.specs.Chains.{lowest, chain, falling, mergesOf, Smaller, In, Apart, Bounded, Starts, bounded-left, bounded-right, apart-append, falling-none, lowest-le, chain-either, chain-starts, chain-none, in-falling}
+use Rattle.read_tables.specs.Larger.{inner, Pair, top-has, top-left, top-right, pair-apart}
+use Rattle.read_tables.specs.Collapse.{ready-leaves, merge-true, collapse-here, collapse-least, collapse-has, collapse-distinct, collapse-left, collapse-right, size-leaf, order-step, order-leaf}
+use Rattle.read_tables.specs.Chains.{lowest, chain, falling, mergesOf, Smaller, In, Apart, Bounded, Starts, bounded-left, bounded-right, apart-append, falling-none, lowest-le, chain-either, chain-starts, chain-none, in-falling}
 
 -- a list's head, if there is one, is below x
 unfoldable HeadBelow : ℕ → List ℕ → Type 0

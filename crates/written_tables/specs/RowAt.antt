@@ -7,7 +7,7 @@ use native.Mathlib.Omega.{arith}
 use lib.ListN.{length, getD, take, drop}
 use lib.Seq.{drop-cons, take-suc}
 use Rattle.rules.specs.Table.{Row, rowsOf}
-use Rattle.table_laws.specs.Flat.{rowsOf-length}
+use Rattle.written_tables.specs.Flat.{rowsOf-length}
 
 -- row t of the numbers
 unfoldable pub rowAt : List ℕ → ℕ → Row

@@ -14,8 +14,8 @@ use Rattle.rules.specs.Tree.{leaf, node, has, Distinct, LeavesBelow, Clusters}
 use Rattle.rules.specs.Table.{Row, childrenBelow, namedTwice, rowFault, tableFault, nodesOf, tableTree}
 use Rattle.basics.specs.Bools.{or-cases, or-no, or-false, both}
 use Rattle.clades.specs.Leaves.{has-left, has-right, has-cases}
-use Rattle.table_laws.specs.Nodes.{noded}
-use Rattle.rows.specs.Count.{last-or-before, bit, count, count-all, count-without, count-only}
+use Rattle.written_tables.specs.Nodes.{noded}
+use Rattle.read_tables.specs.Count.{last-or-before, bit, count, count-all, count-without, count-only}
 
 -- k is a child of the row, or was named before
 unfoldable pub namedAlso : (ℕ → Bool) → Row → ℕ → Bool
