@@ -2,7 +2,6 @@
 // The run stops at the end of the stream, and where a part of a case is not whole: the input ends in it, or it has more than
 // 8,192 elements.
 mod made;
-mod stream;
 
 fn main() {
     let mut v = [0u16; 8192];
@@ -25,7 +24,7 @@ fn cases(v: &mut [u16], p: &mut [u16], out: &mut [u16], bytes: &mut [u8]) {
 // Answers whether there was a case. Of what is lent to every case, v is for a vector or rows, p for a permutation that is given
 // or made, out for other numbers made, bytes for a text or a record that is given or made.
 fn case(index: usize, v: &mut [u16], p: &mut [u16], out: &mut [u16], bytes: &mut [u8]) -> bool {
-    let call = stream::call();
+    let call = case_stream::call();
     match call {
         1 => check(index, v),
         2 => to_table(index, v, out),
@@ -41,7 +40,7 @@ fn case(index: usize, v: &mut [u16], p: &mut [u16], out: &mut [u16], bytes: &mut
 }
 
 fn check(index: usize, v: &mut [u16]) -> bool {
-    let given = stream::numbers(v);
+    let given = case_stream::numbers(v);
     let n = given.length;
     if given.whole {
         made::check(index, &v[..n]);
@@ -50,8 +49,8 @@ fn check(index: usize, v: &mut [u16]) -> bool {
 }
 
 fn to_table(index: usize, v: &mut [u16], out: &mut [u16]) -> bool {
-    let given = stream::numbers(v);
-    let lent = stream::lent_numbers(out);
+    let given = case_stream::numbers(v);
+    let lent = case_stream::lent_numbers(out);
     let n = given.length;
     let room = lent.length;
     let whole = given.whole && lent.whole;
@@ -62,9 +61,9 @@ fn to_table(index: usize, v: &mut [u16], out: &mut [u16]) -> bool {
 }
 
 fn from_table(index: usize, rows: &mut [u16], out: &mut [u16]) -> bool {
-    let leaves = stream::leaves();
-    let given = stream::numbers(rows);
-    let lent = stream::lent_numbers(out);
+    let leaves = case_stream::leaves();
+    let given = case_stream::numbers(rows);
+    let lent = case_stream::lent_numbers(out);
     let n = given.length;
     let room = lent.length;
     let whole = given.whole && lent.whole;
@@ -75,8 +74,8 @@ fn from_table(index: usize, rows: &mut [u16], out: &mut [u16]) -> bool {
 }
 
 fn to_newick(index: usize, v: &mut [u16], out: &mut [u8]) -> bool {
-    let given = stream::numbers(v);
-    let lent = stream::lent_bytes(out);
+    let given = case_stream::numbers(v);
+    let lent = case_stream::lent_bytes(out);
     let n = given.length;
     let room = lent.length;
     let whole = given.whole && lent.whole;
@@ -87,8 +86,8 @@ fn to_newick(index: usize, v: &mut [u16], out: &mut [u8]) -> bool {
 }
 
 fn from_newick(index: usize, text: &mut [u8], out: &mut [u16]) -> bool {
-    let given = stream::bytes(text);
-    let lent = stream::lent_numbers(out);
+    let given = case_stream::bytes(text);
+    let lent = case_stream::lent_numbers(out);
     let n = given.length;
     let room = lent.length;
     let whole = given.whole && lent.whole;
@@ -99,8 +98,8 @@ fn from_newick(index: usize, text: &mut [u8], out: &mut [u16]) -> bool {
 }
 
 fn pack(index: usize, v: &mut [u16], out: &mut [u8]) -> bool {
-    let given = stream::numbers(v);
-    let lent = stream::lent_bytes(out);
+    let given = case_stream::numbers(v);
+    let lent = case_stream::lent_bytes(out);
     let n = given.length;
     let room = lent.length;
     let whole = given.whole && lent.whole;
@@ -111,8 +110,8 @@ fn pack(index: usize, v: &mut [u16], out: &mut [u8]) -> bool {
 }
 
 fn unpack(index: usize, record: &mut [u8], out: &mut [u16]) -> bool {
-    let given = stream::bytes(record);
-    let lent = stream::lent_numbers(out);
+    let given = case_stream::bytes(record);
+    let lent = case_stream::lent_numbers(out);
     let n = given.length;
     let room = lent.length;
     let whole = given.whole && lent.whole;
@@ -123,9 +122,9 @@ fn unpack(index: usize, record: &mut [u8], out: &mut [u16]) -> bool {
 }
 
 fn shuffle(index: usize, v: &mut [u16], new: &mut [u16], out: &mut [u16]) -> bool {
-    let given = stream::numbers(v);
-    let first = stream::lent_numbers(new);
-    let second = stream::lent_numbers(out);
+    let given = case_stream::numbers(v);
+    let first = case_stream::lent_numbers(new);
+    let second = case_stream::lent_numbers(out);
     let n = given.length;
     let room = first.length;
     let space = second.length;
@@ -137,9 +136,9 @@ fn shuffle(index: usize, v: &mut [u16], new: &mut [u16], out: &mut [u16]) -> boo
 }
 
 fn relabel(index: usize, v: &mut [u16], p: &mut [u16], out: &mut [u16]) -> bool {
-    let vector = stream::numbers(v);
-    let permutation = stream::numbers(p);
-    let lent = stream::lent_numbers(out);
+    let vector = case_stream::numbers(v);
+    let permutation = case_stream::numbers(p);
+    let lent = case_stream::lent_numbers(out);
     let n = vector.length;
     let m = permutation.length;
     let room = lent.length;

@@ -1,11 +1,11 @@
-use Rattle.calls.proofs.Fronts.{front, front-counts}
+use Rattle.case_stream.proofs.Fronts.{front, front-counts}
 use borrow.Author.Needs.{needs}
-use Rattle.calls.proofs.stream.bytes.Statement.{statement}
-use Rattle.calls.proofs.stream.bytes.Tie as tie
-use Rattle.calls.proofs.stream.bytes.Reads as reads
-use Rattle.calls.proofs.stream.bytes.Lts as lts
-use Rattle.calls.proofs.stream.length.Reads as length-reads
-use Rattle.calls.proofs.stream.read.Reads as read-reads
+use Rattle.case_stream.proofs.bytes.Statement.{statement}
+use Rattle.case_stream.proofs.bytes.Tie as tie
+use Rattle.case_stream.proofs.bytes.Reads as reads
+use Rattle.case_stream.proofs.bytes.Lts as lts
+use Rattle.case_stream.proofs.length.Reads as length-reads
+use Rattle.case_stream.proofs.read.Reads as read-reads
 
 length-requires : tie.Need-length-requires
 length-requires c κs = search needs

@@ -1,11 +1,11 @@
-use Rattle.calls.proofs.Fronts.{front, front-counts}
+use Rattle.case_stream.proofs.Fronts.{front, front-counts}
 use borrow.Author.Needs.{needs}
-use Rattle.calls.proofs.stream.numbers.Statement.{statement}
-use Rattle.calls.proofs.stream.numbers.Tie as tie
-use Rattle.calls.proofs.stream.numbers.Reads as reads
-use Rattle.calls.proofs.stream.numbers.Lts as lts
-use Rattle.calls.proofs.stream.length.Reads as length-reads
-use Rattle.calls.proofs.stream.read_numbers.Reads as read-numbers-reads
+use Rattle.case_stream.proofs.numbers.Statement.{statement}
+use Rattle.case_stream.proofs.numbers.Tie as tie
+use Rattle.case_stream.proofs.numbers.Reads as reads
+use Rattle.case_stream.proofs.numbers.Lts as lts
+use Rattle.case_stream.proofs.length.Reads as length-reads
+use Rattle.case_stream.proofs.read_numbers.Reads as read-numbers-reads
 
 length-requires : tie.Need-length-requires
 length-requires c κs = search needs

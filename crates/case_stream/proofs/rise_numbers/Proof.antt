@@ -3,10 +3,10 @@ use lib.ListN.{length, length-set}
 use Prim.Native.Nat.{_-_, _≤_}
 use native.Mathlib.Omega.{arith}
 use borrow.Author.Needs.{needs}
-use Rattle.calls.proofs.stream.rise_numbers.Statement.{statement}
-use Rattle.calls.proofs.stream.rise_numbers.Tie as tie
-use Rattle.calls.proofs.stream.rise_numbers.Reads as reads
-use Rattle.calls.proofs.stream.rise_numbers.Lts as lts
+use Rattle.case_stream.proofs.rise_numbers.Statement.{statement}
+use Rattle.case_stream.proofs.rise_numbers.Tie as tie
+use Rattle.case_stream.proofs.rise_numbers.Reads as reads
+use Rattle.case_stream.proofs.rise_numbers.Lts as lts
 use Rattle.std.proofs.num.wrapping_add_u16.Reads as wrapping-add-u16-reads
 
 abbrev Inv-loop : tie.InvT-loop

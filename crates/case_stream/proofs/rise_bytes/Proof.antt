@@ -3,10 +3,10 @@ use lib.ListN.{length, length-set}
 use Prim.Native.Nat.{_-_, _≤_}
 use native.Mathlib.Omega.{arith}
 use borrow.Author.Needs.{needs}
-use Rattle.calls.proofs.stream.rise_bytes.Statement.{statement}
-use Rattle.calls.proofs.stream.rise_bytes.Tie as tie
-use Rattle.calls.proofs.stream.rise_bytes.Reads as reads
-use Rattle.calls.proofs.stream.rise_bytes.Lts as lts
+use Rattle.case_stream.proofs.rise_bytes.Statement.{statement}
+use Rattle.case_stream.proofs.rise_bytes.Tie as tie
+use Rattle.case_stream.proofs.rise_bytes.Reads as reads
+use Rattle.case_stream.proofs.rise_bytes.Lts as lts
 use Rattle.std.proofs.num.wrapping_add_u8.Reads as wrapping-add-u8-reads
 
 abbrev Inv-loop : tie.InvT-loop

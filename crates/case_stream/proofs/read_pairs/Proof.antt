@@ -1,12 +1,12 @@
-use Rattle.calls.proofs.Fronts.{front}
+use Rattle.case_stream.proofs.Fronts.{front}
 use native.Mathlib.Omega.{arith}
 use borrow.Author.Needs.{needs}
-use Rattle.calls.proofs.stream.read_pairs.Statement.{statement}
-use Rattle.calls.proofs.stream.read_pairs.Tie as tie
-use Rattle.calls.proofs.stream.read_pairs.Reads as reads
-use Rattle.calls.proofs.stream.read_pairs.Lts as lts
-use Rattle.calls.proofs.stream.from_pairs.Reads as from-pairs-reads
-use Rattle.calls.proofs.stream.read.Reads as read-reads
+use Rattle.case_stream.proofs.read_pairs.Statement.{statement}
+use Rattle.case_stream.proofs.read_pairs.Tie as tie
+use Rattle.case_stream.proofs.read_pairs.Reads as reads
+use Rattle.case_stream.proofs.read_pairs.Lts as lts
+use Rattle.case_stream.proofs.from_pairs.Reads as from-pairs-reads
+use Rattle.case_stream.proofs.read.Reads as read-reads
 
 returns : tie.Need-returns
 returns c = search needs

@@ -1,11 +1,11 @@
 use Prim.Native.Nat.{_≤_}
 use lib.ListN.{length}
 use borrow.Author.Needs.{needs}
-use Rattle.calls.proofs.stream.value.Statement.{statement}
-use Rattle.calls.proofs.stream.value.Tie as tie
-use Rattle.calls.proofs.stream.value.Reads as reads
-use Rattle.calls.proofs.stream.value.Lts as lts
-use Rattle.calls.proofs.stream.wide.Reads as wide-reads
+use Rattle.case_stream.proofs.value.Statement.{statement}
+use Rattle.case_stream.proofs.value.Tie as tie
+use Rattle.case_stream.proofs.value.Reads as reads
+use Rattle.case_stream.proofs.value.Lts as lts
+use Rattle.case_stream.proofs.wide.Reads as wide-reads
 
 abbrev Inv-loop : tie.InvT-loop
 Inv-loop xs x₀ k₀ x k = k ≤ length xs

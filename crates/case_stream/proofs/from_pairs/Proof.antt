@@ -3,11 +3,11 @@ use lib.ListN.{length, length-set}
 use Prim.Native.Nat.{_-_, _≤_, _*_}
 use native.Mathlib.Omega.{arith}
 use borrow.Author.Needs.{needs}
-use Rattle.calls.proofs.stream.from_pairs.Statement.{statement}
-use Rattle.calls.proofs.stream.from_pairs.Tie as tie
-use Rattle.calls.proofs.stream.from_pairs.Reads as reads
-use Rattle.calls.proofs.stream.from_pairs.Lts as lts
-use Rattle.calls.proofs.stream.number.Reads as number-reads
+use Rattle.case_stream.proofs.from_pairs.Statement.{statement}
+use Rattle.case_stream.proofs.from_pairs.Tie as tie
+use Rattle.case_stream.proofs.from_pairs.Reads as reads
+use Rattle.case_stream.proofs.from_pairs.Lts as lts
+use Rattle.case_stream.proofs.number.Reads as number-reads
 
 abbrev Inv-loop : tie.InvT-loop
 Inv-loop pairs xs₀ k₀ xs k = (length xs ≡ length xs₀) × (length xs₀ * 2 ≤ length pairs)

@@ -1,11 +1,11 @@
-use Rattle.calls.proofs.Fronts.{front, front-counts}
+use Rattle.case_stream.proofs.Fronts.{front, front-counts}
 use borrow.Author.Needs.{needs}
-use Rattle.calls.proofs.stream.lent_bytes.Statement.{statement}
-use Rattle.calls.proofs.stream.lent_bytes.Tie as tie
-use Rattle.calls.proofs.stream.lent_bytes.Reads as reads
-use Rattle.calls.proofs.stream.lent_bytes.Lts as lts
-use Rattle.calls.proofs.stream.fill_bytes.Reads as fill-bytes-reads
-use Rattle.calls.proofs.stream.length.Reads as length-reads
+use Rattle.case_stream.proofs.lent_bytes.Statement.{statement}
+use Rattle.case_stream.proofs.lent_bytes.Tie as tie
+use Rattle.case_stream.proofs.lent_bytes.Reads as reads
+use Rattle.case_stream.proofs.lent_bytes.Lts as lts
+use Rattle.case_stream.proofs.fill_bytes.Reads as fill-bytes-reads
+use Rattle.case_stream.proofs.length.Reads as length-reads
 
 length-requires : tie.Need-length-requires
 length-requires c κs = search needs
