@@ -2,7 +2,7 @@
 use rules::Answer;
 ghost use Prim.Native.Nat.{_+_, _≤_};
 ghost use lib.ListN.{length};
-ghost use Rattle.rules.specs.Vector.{Valid};
+ghost use Rattle.accepting.specs.FromVector.{Vector};
 ghost use Rattle.rules.specs.Tree.{treeOf};
 ghost use Rattle.rules.specs.Newick.{textOf};
 ghost use Rattle.rules.specs.Listing.{lineOf};
@@ -10,7 +10,7 @@ ghost use Rattle.digits.specs.Wrote.{Wrote};
 
 /// Writes the line of a valid vector to the front of `out`, and answers its length. A line has at most 10,624 bytes.
 pub fn write_line(v: &[u16], out: &mut [u8]) -> usize
-    requires { ⌜ Valid (now v) × (length (now v) ≤ 1024) × (10624 ≤ length (now out)) ⌝ }
+    requires { ⌜ Vector (now v) × (10624 ≤ length (now out)) ⌝ }
     ensures { λ r. ⌜ Wrote (lineOf (now (v .entry))) 0 (now (out .entry)) (now (out .exit)) r ⌝ }
 {
     let at = listing_front::write_front(v, out);
@@ -21,7 +21,7 @@ pub fn write_line(v: &[u16], out: &mut [u8]) -> usize
 
 // The text, at a place.
 fn write_text(v: &[u16], out: &mut [u8], at: usize) -> usize
-    requires { ⌜ Valid (now v) × (length (now v) ≤ 1024) × (at + 6056 ≤ length (now out)) ⌝ }
+    requires { ⌜ Vector (now v) × (at + 6056 ≤ length (now out)) ⌝ }
     ensures { λ r. ⌜ Wrote (textOf (treeOf (now (v .entry)))) at (now (out .entry)) (now (out .exit)) r ⌝ }
 {
     let Answer::Done(k) = trees::to_newick(v, &mut out[at..]) else {

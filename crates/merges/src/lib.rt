@@ -4,7 +4,7 @@ ghost use mathlib.Core.Path.{_≡_};
 ghost use mathlib.Core.List.{map};
 ghost use Prim.Native.Nat.{_+_, _-_, _≤_};
 ghost use lib.ListN.{length, take, drop};
-ghost use Rattle.rules.specs.Vector.{Valid};
+ghost use Rattle.accepting.specs.FromVector.{Vector};
 ghost use Rattle.merging.specs.Insertion.{pairs};
 ghost use Rattle.merges.specs.Room.{listRoom};
 ghost use Rattle.merges.specs.Held.{held};
@@ -40,7 +40,7 @@ fn put(list: &mut [u16], small: &mut [u16], lo: usize, i: usize, x: u16) -> usiz
 /// Writes the merges of v: their larger names into list, which grows at both ends from its middle, and for each of them the
 /// smaller name into small. The result is where the list starts.
 pub fn merges(v: &[u16], list: &mut [u16], small: &mut [u16]) -> usize
-    requires { ⌜ Valid (now v) × (length (now v) ≤ 1024) × (length (now list) ≡ listRoom) × (length (now small) ≡ 1024) ⌝ }
+    requires { ⌜ Vector (now v) × (length (now list) ≡ listRoom) × (length (now small) ≡ 1024) ⌝ }
     ensures { λ r. ⌜ (r + (length (now (v .entry)) - 1) ≤ listRoom)
         × (map (held (now (small .exit))) (take (length (now (v .entry)) - 1) (drop r (now (list .exit)))) ≡ pairs (now (v .entry))) ⌝ }
 {

@@ -1,9 +1,9 @@
 // The words of the nodes of a vector's tree: those of the leaves, and behind them, row by row, those of the pairs.
 use numbers::wide;
 ghost use mathlib.Core.Path.{_≡_};
-ghost use Prim.Native.Nat.{_+_, _*_, _≤_};
+ghost use Prim.Native.Nat.{_+_, _*_};
 ghost use lib.ListN.{length};
-ghost use Rattle.rules.specs.Vector.{Valid};
+ghost use Rattle.accepting.specs.FromVector.{Vector};
 ghost use Rattle.numbering.specs.Numbered.{BeforeRows, heldRows};
 ghost use Rattle.label_words.specs.Leaves.{wordPlaces, LeafWords};
 ghost use Rattle.node_words.specs.Paired.{Paired, vectorRows};
@@ -43,7 +43,7 @@ fn pair_words(
 
 // The words of the nodes of v's tree.
 pub fn tree_words(v: &[u16], words: &mut [u32])
-    requires { ⌜ Valid (now v) × (length (now v) ≤ 1024) × (length (now words) ≡ wordPlaces) ⌝ }
+    requires { ⌜ Vector (now v) × (length (now words) ≡ wordPlaces) ⌝ }
     ensures { λ _. ⌜ Paired (length (now (v .entry))) (vectorRows (now (v .entry))) (now (words .exit)) ⌝ }
 {
     let mut list = [0u16; PLACES];

@@ -3,7 +3,7 @@ ghost use mathlib.Core.Path.{_≡_};
 ghost use mathlib.Core.List.{_++_};
 ghost use Prim.Native.Nat.{_≤_};
 ghost use lib.ListN.{length, drop};
-ghost use Rattle.rules.specs.Vector.{Valid};
+ghost use Rattle.accepting.specs.FromVector.{Vector};
 ghost use Rattle.rules.specs.Record.{recordLength, recordOf};
 ghost use Rattle.entry_writer.specs.Entries.{PutEntries, Due};
 use bit_writer::Pending;
@@ -26,7 +26,7 @@ fn put_entries(v: &[u16], out: &mut [u8], p: Pending) -> Pending
 
 /// Writes the record of a valid vector to the front of `out`. It is built in an array of its own, since a word is stored at a time.
 pub fn pack_into(v: &[u16], out: &mut [u8])
-    requires { ⌜ Valid (now v) × (length (now v) ≤ 1024) × (recordLength (length (now v)) ≤ length (now out)) ⌝ }
+    requires { ⌜ Vector (now v) × (recordLength (length (now v)) ≤ length (now out)) ⌝ }
     ensures { λ _. ⌜ now (out .exit) ≡ recordOf (now (v .entry)) ++ drop (recordLength (length (now (v .entry)))) (now (out .entry)) ⌝ }
 {
     let mut built = [0u8; BUILT];

@@ -4,7 +4,7 @@ ghost use mathlib.Core.List.{[], _++_};
 ghost use mathlib.Core.Option.{none};
 ghost use Prim.Native.Nat.{_≤_};
 ghost use lib.ListN.{length, drop};
-ghost use Rattle.rules.specs.Vector.{Valid};
+ghost use Rattle.accepting.specs.FromVector.{Vector};
 ghost use Rattle.rules.specs.Tree.{treeOf};
 ghost use Rattle.rules.specs.Order.{vectorOf};
 ghost use Rattle.rules.specs.Shuffle.{renamed, permutationFault};
@@ -51,7 +51,7 @@ pub fn rename_rows(v: &[u16], p: &[u16], left: &mut [u16], right: &mut [u16], ve
 
 // The vector of v's tree with leaf x renamed p(x), at the front of vector.
 pub fn renamed_vector(v: &[u16], p: &[u16], vector: &mut [u16])
-    requires { ⌜ Valid (now v) × (length (now v) ≤ 1024) × (length (now v) ≤ length (now vector)) ⌝ }
+    requires { ⌜ Vector (now v) × (length (now v) ≤ length (now vector)) ⌝ }
     requires { ⌜ (length (now p) ≡ length (now v)) × (permutationFault (length (now v)) 0 [] (now p) ≡ none) ⌝ }
     ensures { λ _. ⌜ now (vector .exit) ≡ vectorOf (renamed (now (p .entry)) (treeOf (now (v .entry)))) ++ drop (length (now (v .entry))) (now (vector .entry)) ⌝ }
 {

@@ -3,14 +3,14 @@ ghost use mathlib.Core.Path.{_≡_};
 ghost use mathlib.Core.List.{_++_};
 ghost use Prim.Native.Nat.{_≤_};
 ghost use lib.ListN.{length, drop};
-ghost use Rattle.rules.specs.Vector.{Valid};
+ghost use Rattle.accepting.specs.FromVector.{Vector};
 ghost use Rattle.rules.specs.Tree.{treeOf};
 ghost use Rattle.rules.specs.Order.{vectorOf};
 ghost use Rattle.rules.specs.Shuffle.{renamed, newOf};
 
 // Queue Shuffle of v's tree: the new labels at the front of new, the vector of the relabelled tree at the front of vector.
 pub fn shuffled(v: &[u16], new: &mut [u16], vector: &mut [u16])
-    requires { ⌜ Valid (now v) × (length (now v) ≤ 1024) × (length (now v) ≤ length (now new)) × (length (now v) ≤ length (now vector)) ⌝ }
+    requires { ⌜ Vector (now v) × (length (now v) ≤ length (now new)) × (length (now v) ≤ length (now vector)) ⌝ }
     ensures { λ _. ⌜ now (new .exit) ≡ newOf (treeOf (now (v .entry))) ++ drop (length (now (v .entry))) (now (new .entry)) ⌝ }
     ensures { λ _. ⌜ now (vector .exit) ≡ vectorOf (renamed (newOf (treeOf (now (v .entry)))) (treeOf (now (v .entry)))) ++ drop (length (now (v .entry))) (now (vector .entry)) ⌝ }
 {

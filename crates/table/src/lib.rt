@@ -4,7 +4,7 @@ ghost use mathlib.Core.Path.{_≡_};
 ghost use mathlib.Core.List.{_++_};
 ghost use Prim.Native.Nat.{_-_, _*_, _≤_};
 ghost use lib.ListN.{length, drop};
-ghost use Rattle.rules.specs.Vector.{Valid};
+ghost use Rattle.accepting.specs.FromVector.{Vector};
 ghost use Rattle.rules.specs.Table.{flat};
 ghost use Rattle.written_tables.specs.Rows.{vectorRows};
 ghost use Rattle.table.specs.Written.{childRows};
@@ -29,7 +29,7 @@ fn copy_rows(n: usize, left: &[u16], right: &[u16], out: &mut [u16])
 
 /// The table of v: the children of its rows are built in local arrays, and copied out as rows.
 pub fn write_table(v: &[u16], out: &mut [u16])
-    requires { ⌜ Valid (now v) × (length (now v) ≤ 1024) × (3 * (length (now v) - 1) ≤ length (now out)) ⌝ }
+    requires { ⌜ Vector (now v) × (3 * (length (now v) - 1) ≤ length (now out)) ⌝ }
     ensures { λ r. ⌜ now (out .exit) ≡ flat (vectorRows (now (v .entry))) ++ drop (3 * (length (now (v .entry)) - 1)) (now (out .entry)) ⌝ }
 {
     let mut left = [0u16; 1024];

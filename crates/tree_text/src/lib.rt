@@ -5,7 +5,7 @@ ghost use mathlib.Core.Path.{_≡_};
 ghost use mathlib.Core.List.{_++_};
 ghost use Prim.Native.Nat.{_-_, _≤_};
 ghost use lib.ListN.{length, drop};
-ghost use Rattle.rules.specs.Vector.{Valid};
+ghost use Rattle.accepting.specs.FromVector.{Vector};
 ghost use Rattle.rules.specs.Tree.{treeOf};
 ghost use Rattle.rules.specs.Newick.{textOf};
 ghost use Rattle.grammar.specs.Length.{textLength};
@@ -33,7 +33,7 @@ pub fn text_length(n: usize) -> usize
 
 // The text of v's tree.
 pub fn write_tree(v: &[u16], out: &mut [u8])
-    requires { ⌜ Valid (now v) × (length (now v) ≤ 1024) × (textLength (length (now v)) ≤ length (now out)) ⌝ }
+    requires { ⌜ Vector (now v) × (textLength (length (now v)) ≤ length (now out)) ⌝ }
     ensures { λ _. ⌜ now (out .exit) ≡ textOf (treeOf (now (v .entry))) ++ drop (textLength (length (now (v .entry)))) (now (out .entry)) ⌝ }
 {
     let mut words = [0u32; WORDS];

@@ -2,16 +2,16 @@
 
 ghost use mathlib.Core.Path.{_≡_};
 ghost use mathlib.Core.List.{_++_, map};
-ghost use Prim.Native.Nat.{_-_, _≤_};
+ghost use Prim.Native.Nat.{_-_};
 ghost use lib.ListN.{length, drop};
-ghost use Rattle.rules.specs.Vector.{Valid};
+ghost use Rattle.accepting.specs.FromVector.{Vector};
 ghost use Rattle.merges.specs.Room.{listRoom};
 ghost use Rattle.written_tables.specs.Rows.{first, second, vectorRows};
 ghost use Rattle.numbering.specs.Numbered.{heldRows, BeforeRows};
 
 // The merges of v in the lists, and each leaf as its own node. The result is where the list starts.
 fn held_merges(v: &[u16], list: &mut [u16], small: &mut [u16], number: &mut [u16]) -> usize
-    requires { ⌜ Valid (now v) × (length (now v) ≤ 1024) × (length (now list) ≡ listRoom) × (length (now small) ≡ 1024) × (length (now number) ≡ 1024) ⌝ }
+    requires { ⌜ Vector (now v) × (length (now list) ≡ listRoom) × (length (now small) ≡ 1024) × (length (now number) ≡ 1024) ⌝ }
     ensures { λ r. ⌜ BeforeRows (now (list .exit)) (now (small .exit)) r (length (now (v .entry))) (now (number .exit))
         × (heldRows (now (list .exit)) (now (small .exit)) r (length (now (v .entry))) ≡ vectorRows (now (v .entry))) ⌝ }
 {
@@ -21,7 +21,7 @@ fn held_merges(v: &[u16], list: &mut [u16], small: &mut [u16], number: &mut [u16
 
 /// The children of the rows of v's table.
 pub fn rows_of(v: &[u16], left: &mut [u16], right: &mut [u16])
-    requires { ⌜ Valid (now v) × (length (now v) ≤ 1024) × (length (now left) ≡ 1024) × (length (now right) ≡ 1024) ⌝ }
+    requires { ⌜ Vector (now v) × (length (now left) ≡ 1024) × (length (now right) ≡ 1024) ⌝ }
     ensures { λ r. ⌜ now (left .exit) ≡ map first (vectorRows (now (v .entry))) ++ drop (length (now (v .entry)) - 1) (now (left .entry)) ⌝ }
     ensures { λ r. ⌜ now (right .exit) ≡ map second (vectorRows (now (v .entry))) ++ drop (length (now (v .entry)) - 1) (now (right .entry)) ⌝ }
 {

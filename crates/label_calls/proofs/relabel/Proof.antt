@@ -54,7 +54,7 @@ returns-3 c = let S = checked-sound (c .before .before .before .before .before .
 
 renamed-vector-requires : tie.Need-renamed-vector-requires
 renamed-vector-requires c κs = let S = checked-sound (c .before .before .before .before .before .before .before .check .ensures) (c .before .before .before .before .before .enum-told .given .1) in
-    ((S .valid, S .few, c .before .if3 .left), (c .before .before .before .before .if1 .left, no-value-fault _ _ _ (c .before .before .before .before .if1 .left) (c .before .before .before .permutation-fault .ensures .1) (c .before .before .if2 .left)))
+    ((S, c .before .if3 .left), (c .before .before .before .before .if1 .left, no-value-fault _ _ _ (c .before .before .before .before .if1 .left) (c .before .before .before .permutation-fault .ensures .1) (c .before .before .if2 .left)))
 
 returns-4 : tie.Need-returns-4
 unfolding calls.relabel

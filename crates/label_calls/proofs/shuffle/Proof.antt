@@ -41,7 +41,7 @@ returns-2 c = let S = checked-sound (c .before .before .before .before .before .
 
 shuffled-requires : tie.Need-shuffled-requires
 shuffled-requires c κs = let S = checked-sound (c .before .before .before .before .before .before .check .ensures) (c .before .before .before .before .enum-told .given .1) in
-    (S .valid, S .few, c .before .before .before .if1 .left, c .before .before .if2 .left)
+    (S, c .before .before .before .if1 .left, c .before .before .if2 .left)
 
 returns-3 : tie.Need-returns-3
 unfolding calls.shuffle

@@ -99,7 +99,7 @@ write-line-requires : tie.Need-write-line-requires Inv-loop μ-loop
 write-line-requires c κs =
     let done = c .before .before .before in
     let A = here done in
-    (A .accepted .valid, A .accepted .few, turn done .loop .inv .5)
+    (A .accepted, turn done .loop .inv .5)
 
 slice-reshare-prefix-write-all : tie.Need-slice-reshare-prefix-write-all Inv-loop μ-loop
 slice-reshare-prefix-write-all c = written (c .before .before)

@@ -24,7 +24,7 @@ here : (c : tie.At-loop Inv-loop μ-loop) → Listed (start c .args .v .now) (st
 here c =
     let first = c .before .before .before in
     let p = start c .pre in
-    c .loop .inv (start c .args .out .now) (listed-start (p .0) (p .1) (p .2) (first .before .before .wide .ensures) (first .write-label .ensures))
+    c .loop .inv (start c .args .out .now) (listed-start (p .0 .valid) (p .0 .few) (p .1) (first .before .before .wide .ensures) (first .write-label .ensures))
 
 shared-slice-read-wide : tie.Need-shared-slice-read-wide Inv-loop μ-loop
 shared-slice-read-wide c = search needs
@@ -36,8 +36,8 @@ write-label-requires : tie.Need-write-label-requires Inv-loop μ-loop
 write-label-requires c κs =
     let w = c .before .wide in
     let p = c .before .before .before .before .before .pre in
-    let some-leaf = p .0 .some-leaf in
-    (rw (w .ensures) (entry-small _ 0 (p .0) (p .1) some-leaf), omega (arith, digits-at-most 4 (w .result)))
+    let some-leaf = p .0 .valid .some-leaf in
+    (rw (w .ensures) (entry-small _ 0 (p .0 .valid) (p .0 .few) some-leaf), omega (arith, digits-at-most 4 (w .result)))
 
 loop-holds : tie.Need-loop-holds Inv-loop μ-loop
 loop-holds c = λ before L. L

@@ -10,19 +10,19 @@ use Rattle.listing_front.proofs.write_front.Tie as tie
 write-label-requires : tie.Need-write-label-requires
 write-label-requires c κs =
     let start = c .before .before .before in
-    (omega arith, omega (arith, digits-at-most 4 (length (start .args .v .now))))
+    (omega (arith, start .pre .0 .few), omega (arith, digits-at-most 4 (length (start .args .v .now))))
 
 slice-write-out : tie.Need-slice-write-out
 slice-write-out c =
     let count = c .before .before in
     let start = count .before .before .before .before in
-    omega (arith, entries-room (start .args .v .now) (start .pre .2) (count .write-label .ensures))
+    omega (arith, entries-room (start .args .v .now) (start .pre .1) (count .write-label .ensures))
 
 add-write-entries : tie.Need-add-write-entries
 add-write-entries c =
     let count = c .before .before .before in
     let start = count .before .before .before .before in
-    omega (arith, entries-room (start .args .v .now) (start .pre .2) (count .write-label .ensures))
+    omega (arith, entries-room (start .args .v .now) (start .pre .1) (count .write-label .ensures))
 
 write-entries-requires : tie.Need-write-entries-requires
 write-entries-requires c κs =
@@ -30,20 +30,20 @@ write-entries-requires c κs =
     let start = count .before .before .before .before in
     let p = start .pre in
     let same = length-set (count .write-label .last .1 .0) (count .write-label .result) 32 in
-    (p .0, p .1, omega (arith, entries-room (start .args .v .now) (p .2) (count .write-label .ensures)))
+    (p .0, omega (arith, entries-room (start .args .v .now) (p .1) (count .write-label .ensures)))
 
 slice-write-out-2 : tie.Need-slice-write-out-2
 slice-write-out-2 c =
     let entries = c .before .before in
     let count = entries .before .before .before .before in
-    space-room _ (count .before .before .before .before .pre .2) (count .write-label .ensures) (entries .write-entries .ensures) .1
+    space-room _ (count .before .before .before .before .pre .1) (count .write-label .ensures) (entries .write-entries .ensures) .1
 
 add-result : tie.Need-add-result
 add-result c =
     let entries = c .before .before in
     let count = entries .before .before .before .before in
     let start = count .before .before .before .before in
-    omega (arith, space-room (start .args .v .now) (start .pre .2) (count .write-label .ensures) (entries .write-entries .ensures))
+    omega (arith, space-room (start .args .v .now) (start .pre .1) (count .write-label .ensures) (entries .write-entries .ensures))
 
 same-length : tie.Need-same-length
 same-length c =

@@ -8,27 +8,27 @@ use Rattle.listing_line.proofs.write_line.Statement.{statement}
 use Rattle.listing_line.proofs.write_line.Tie as tie
 
 write-front-requires : tie.Need-write-front-requires
-write-front-requires c κs = let p = c .before .before .before .pre in (p .0, p .1, omega arith)
+write-front-requires c κs = let p = c .before .before .before .pre in (p .0, omega arith)
 
 write-text-requires : tie.Need-write-text-requires
 write-text-requires c κs =
     let front = c .before .before .before in
     let p = front .before .before .before .before .pre in
-    (p .0, p .1, omega (arith, text-room _ (p .0) (p .1) (p .2) (front .write-front .ensures)))
+    (p .0, omega (arith, text-room _ (p .0 .valid) (p .0 .few) (p .1) (front .write-front .ensures)))
 
 slice-write-out : tie.Need-slice-write-out
 slice-write-out c =
     let text = c .before .before in
     let front = text .before .before .before .before in
     let p = front .before .before .before .before .pre in
-    end-room _ (p .0) (p .1) (p .2) (front .write-front .ensures) (text .write-text .ensures)
+    end-room _ (p .0 .valid) (p .0 .few) (p .1) (front .write-front .ensures) (text .write-text .ensures)
 
 add-result : tie.Need-add-result
 add-result c =
     let text = c .before .before in
     let front = text .before .before .before .before in
     let p = front .before .before .before .before .pre in
-    omega (arith, end-room _ (p .0) (p .1) (p .2) (front .write-front .ensures) (text .write-text .ensures))
+    omega (arith, end-room _ (p .0 .valid) (p .0 .few) (p .1) (front .write-front .ensures) (text .write-text .ensures))
 
 same-length : tie.Need-same-length
 same-length c =

@@ -32,15 +32,15 @@ returns c =
     let call = c .before .before .before .before in
     let start = call .before .before .before .before in
     let p = start .pre in
-    absurd (text-not-refused _ (p .0) (p .1) (start .args .out .now) (start .args .at) (p .2) (call .to-newick .ensures) (c .enum-told .given .1))
+    absurd (text-not-refused _ (p .0 .valid) (p .0 .few) (start .args .out .now) (start .args .at) (p .1) (call .to-newick .ensures) (c .enum-told .given .1))
 
 add-result : tie.Need-add-result
 add-result c =
     let call = c .before .before .before .before .before in
     let start = call .before .before .before .before in
     let p = start .pre in
-    let count = text-count _ (p .0) (p .1) (start .args .out .now) (start .args .at) (p .2) (call .to-newick .ensures) (c .before .k .given .1) in
-    omega (arith, text-at-most (start .args .v .now) (p .0) (p .1))
+    let count = text-count _ (p .0 .valid) (p .0 .few) (start .args .out .now) (start .args .at) (p .1) (call .to-newick .ensures) (c .before .k .given .1) in
+    omega (arith, text-at-most (start .args .v .now) (p .0 .valid) (p .0 .few))
 
 same-length-2 : tie.Need-same-length-2
 same-length-2 c = search needs
@@ -50,7 +50,7 @@ returns-2 c =
     let call = c .before .before .before .before .before in
     let start = call .before .before .before .before in
     let p = start .pre in
-    text-written _ (p .0) (p .1) (start .args .out .now) (start .args .at) (p .2) (call .to-newick .ensures) (c .before .k .given .1)
+    text-written _ (p .0 .valid) (p .0 .few) (start .args .out .now) (start .args .at) (p .1) (call .to-newick .ensures) (c .before .k .given .1)
 
 pub write-text-spec : {M : Type 1} → statement M
 write-text-spec =

@@ -38,7 +38,7 @@ pair-words-requires c κs =
     let numbered = merged .before .before .before .before in
     let p = numbered .before .before .before .before .pre in
     let e = merged .merges .ensures in
-    (before-rows (p .0) (p .1) (e .0) (e .1) (search needs) (search needs) (search needs) (numbered .number-leaves .ensures), written .leaf-words .ensures)
+    (before-rows (p .0 .valid) (p .0 .few) (e .0) (e .1) (search needs) (search needs) (search needs) (numbered .number-leaves .ensures), written .leaf-words .ensures)
 
 same-length : tie.Need-same-length
 same-length c = search needs

@@ -10,7 +10,7 @@ use Rattle.packing.proofs.pack_into.Tie as tie
 -- the record is built, once the entries are put
 built : (c : tie.After-put-entries) → Packed (c .before .before .before .before .before .before .before .args .v .now) (c .put-entries .result) (c .put-entries .last .1 .0)
 built c =
-    let valid = c .before .before .before .before .before .before .before .pre .0 in
+    let valid = c .before .before .before .before .before .before .before .pre .0 .valid in
     packed _ _ _ (c .before .before .before .put-bits .ensures) _ _ (omega (arith, valid .some-leaf)) (c .put-entries .ensures)
 
 slice-aggregate-put-bits : tie.Need-slice-aggregate-put-bits
@@ -23,7 +23,7 @@ slice-aggregate-put-entries : tie.Need-slice-aggregate-put-entries
 slice-aggregate-put-entries c = search needs
 
 put-entries-requires : tie.Need-put-entries-requires
-put-entries-requires c κs = entries-due _ _ _ (c .before .before .put-bits .ensures) (c .before .before .before .before .before .before .pre .0) (c .before .before .before .before .before .before .pre .1) (c .before .before .put-bits .kept .0)
+put-entries-requires c κs = entries-due _ _ _ (c .before .before .put-bits .ensures) (c .before .before .before .before .before .before .pre .0 .valid) (c .before .before .before .before .before .before .pre .0 .few) (c .before .before .put-bits .kept .0)
 
 slice-aggregate-copy-bytes : tie.Need-slice-aggregate-copy-bytes
 slice-aggregate-copy-bytes c = search needs
@@ -37,13 +37,13 @@ cast-copy-bytes c = search needs
 add-copy-bytes-2 : tie.Need-add-copy-bytes-2
 add-copy-bytes-2 c =
     let entries = c .before .before .before .before in
-    omega (arith, built entries .0, record-length-most _ (entries .before .before .before .before .before .before .before .pre .1))
+    omega (arith, built entries .0, record-length-most _ (entries .before .before .before .before .before .before .before .pre .0 .few))
 
 copy-bytes-requires : tie.Need-copy-bytes-requires
 copy-bytes-requires c κs =
     let entries = c .before .before .before .before .before in
     let e = built entries .0 in
-    let m = record-length-most _ (entries .before .before .before .before .before .before .before .pre .1) in
+    let m = record-length-most _ (entries .before .before .before .before .before .before .before .pre .0 .few) in
     (omega arith, omega arith)
 
 same-length : tie.Need-same-length

@@ -48,7 +48,7 @@ pack-into-requires c κs =
     let test = c .before in
     let bytes = test .before in
     let S = checked (bytes .before) in
-    (S .valid, S .few, rw (bytes .record-length .ensures) at (test .if1 .left))
+    (S, rw (bytes .record-length .ensures) at (test .if1 .left))
 
 returns-2 : tie.Need-returns-2
 unfolding calls.pack

@@ -28,7 +28,7 @@ rename-rows-requires c κs = let w = c .before .before .before .before .before i
     let P = w .before .before .before .before .before .before .pre in
     let E = w .rows-of .ensures in
     let kept = w .rows-of .kept in
-    ((rows-of _ _ _ _ _ (P .0 .0) (omega arith) (omega arith) (P .0 .1) (E .0) (E .1), P .0 .1, omega (arith, P .0 .1)), P .1)
+    ((rows-of _ _ _ _ _ (P .0 .0 .valid) (omega arith) (omega arith) (P .0 .0 .few) (E .0) (E .1), P .0 .0 .few, omega (arith, P .0 .0 .few)), P .1)
 
 slice-aggregate-copy-numbers : tie.Need-slice-aggregate-copy-numbers
 slice-aggregate-copy-numbers c = search needs
@@ -42,7 +42,7 @@ same-length c = search needs
 returns : tie.Need-returns
 returns c = let r = c .before .before .before .before .before .before .before .before in
     let P = r .before .before .before .before .before .before .before .before .before .before .before .before .pre in
-    rw (renamed-front _ _ _ _ (P .0 .0) (P .1 .0) (P .1 .1) (r .rename-rows .ensures)) at (c .before .before .copy-numbers .ensures)
+    rw (renamed-front _ _ _ _ (P .0 .0 .valid) (P .1 .0) (P .1 .1) (r .rename-rows .ensures)) at (c .before .before .copy-numbers .ensures)
 
 pub renamed-vector-spec : {M : Type 1} → statement M
 renamed-vector-spec =

@@ -20,7 +20,7 @@ rows : (w : tie.After-rows-of) → RowsOf (started w .args .v .now) (w .rows-of 
 rows w =
     let P = started w .pre in
     let kept = w .rows-of .kept in
-    rows-of _ _ _ _ _ (P .0) (omega arith) (omega arith) (P .1) (w .rows-of .ensures .0) (w .rows-of .ensures .1)
+    rows-of _ _ _ _ _ (P .0 .valid) (omega arith) (omega arith) (P .0 .few) (w .rows-of .ensures .0) (w .rows-of .ensures .1)
 
 -- and their new labels
 labels : (q : tie.After-queue) → NewLabels (started (written q) .args .v .now) (q .queue .last .1 .1 .1 .1 .1 .0)
@@ -54,7 +54,7 @@ queue-requires : tie.Need-queue-requires
 queue-requires c κs = let w = c .before .before .before .before .before .before .before in
     let P = started w .pre in
     let R = rows w in
-    (record { small = P .1; lefts = R .lefts; rights = R .rights; nodes-room = refl; labels-room = refl; room = omega (arith, P .1) }, rows-tabled R)
+    (record { small = P .0 .few; lefts = R .lefts; rights = R .rights; nodes-room = refl; labels-room = refl; room = omega (arith, P .0 .few) }, rows-tabled R)
 
 array-share-prefix-new-labels : tie.Need-array-share-prefix-new-labels
 array-share-prefix-new-labels c = search needs
@@ -75,7 +75,7 @@ rename-rows-requires : tie.Need-rename-rows-requires
 rename-rows-requires c κs = let q = c .before .before .before .before .before .before .before in
     let P = started (written q) .pre in
     let N = labels q in
-    ((rows (written q), P .1, omega (arith, P .1)), (N .count, N .no-fault))
+    ((rows (written q), P .0 .few, omega (arith, P .0 .few)), (N .count, N .no-fault))
 
 slice-aggregate-copy-numbers : tie.Need-slice-aggregate-copy-numbers
 slice-aggregate-copy-numbers c = search needs
@@ -87,7 +87,11 @@ slice-aggregate-copy-numbers-2 : tie.Need-slice-aggregate-copy-numbers-2
 slice-aggregate-copy-numbers-2 c = search needs
 
 copy-numbers-requires-2 : tie.Need-copy-numbers-requires-2
-copy-numbers-requires-2 c κs = search needs
+copy-numbers-requires-2 c κs =
+    let made = c .before .before .before .before .before .before .before .before .before .before in
+    let P = started (written (made .before .before .before .before .before .before .before .before)) .pre in
+    let kept = made .rename-rows .kept in
+    (omega (arith, P .0 .few), P .2)
 
 same-length : tie.Need-same-length
 same-length c = search needs

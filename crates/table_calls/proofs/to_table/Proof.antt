@@ -39,7 +39,7 @@ returns c = let S = checked-sound (c .before .before .before .before .check .ens
 
 write-table-requires : tie.Need-write-table-requires
 write-table-requires c κs = let S = checked-sound (c .before .before .before .before .check .ensures) (c .before .before .enum-told .given .1) in
-    (S .valid, S .few, c .before .if1 .left)
+    (S, c .before .if1 .left)
 
 returns-2 : tie.Need-returns-2
 unfolding calls.toTable

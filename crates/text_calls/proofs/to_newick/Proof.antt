@@ -37,7 +37,7 @@ returns c = let S = checked-sound (c .before .before .before .before .before .ch
 
 write-tree-requires : tie.Need-write-tree-requires
 write-tree-requires c κs = let S = checked-sound (c .before .before .before .before .before .check .ensures) (c .before .before .before .enum-told .given .1) in
-    (S .valid, S .few, rw (c .before .before .text-length .ensures) at (c .before .if1 .left))
+    (S, rw (c .before .before .text-length .ensures) at (c .before .if1 .left))
 
 returns-2 : tie.Need-returns-2
 unfolding calls.toText

@@ -16,19 +16,19 @@ tree-words-requires c κs = search needs
 write-text-requires : tie.Need-write-text-requires
 write-text-requires c κs = let at-tree-words = c .before .before .before in
     let start = c .before .before .before .before .before .before .before in
-    (lefts (start .args .v .now), rights (start .args .v .now), text-fits (start .args .v .now) (start .pre .0) (start .pre .1) _ _ (at-tree-words .tree-words .ensures) refl)
+    (lefts (start .args .v .now), rights (start .args .v .now), text-fits (start .args .v .now) (start .pre .0 .valid) (start .pre .0 .few) _ _ (at-tree-words .tree-words .ensures) refl)
 
 slice-aggregate-copy-bytes : tie.Need-slice-aggregate-copy-bytes
 slice-aggregate-copy-bytes c = let at-tree-words = c .before .before .before .before .before in
     let start = c .before .before .before .before .before .before .before .before .before in
-    sym (c .before .write-text .ensures _ _ (text-fits (start .args .v .now) (start .pre .0) (start .pre .1) _ _ (at-tree-words .tree-words .ensures) refl) .whole)
+    sym (c .before .write-text .ensures _ _ (text-fits (start .args .v .now) (start .pre .0 .valid) (start .pre .0 .few) _ _ (at-tree-words .tree-words .ensures) refl) .whole)
 
 copy-bytes-requires : tie.Need-copy-bytes-requires
 copy-bytes-requires c κs = let at-tree-words = c .before .before .before .before .before .before in
     let start = c .before .before .before .before .before .before .before .before .before .before in
-    let S = c .before .before .write-text .ensures _ _ (text-fits (start .args .v .now) (start .pre .0) (start .pre .1) _ _ (at-tree-words .tree-words .ensures) refl) in
-    let e = text-end (start .args .v .now) (start .pre .0) (start .pre .1) _ _ _ S in
-    (omega (arith, e, S .whole, text-length-most _ (start .pre .1)), omega (arith, e, start .pre .2))
+    let S = c .before .before .write-text .ensures _ _ (text-fits (start .args .v .now) (start .pre .0 .valid) (start .pre .0 .few) _ _ (at-tree-words .tree-words .ensures) refl) in
+    let e = text-end (start .args .v .now) (start .pre .0 .valid) (start .pre .0 .few) _ _ _ S in
+    (omega (arith, e, S .whole, text-length-most _ (start .pre .0 .few)), omega (arith, e, start .pre .1))
 
 same-length : tie.Need-same-length
 same-length c = search needs
@@ -37,8 +37,8 @@ returns : tie.Need-returns
 returns c = let at-write-text = c .before .before .before .before .before in
     let at-tree-words = c .before .before .before .before .before .before .before .before .before in
     let start = c .before .before .before .before .before .before .before .before .before .before .before .before .before in
-    let S = at-write-text .write-text .ensures _ _ (text-fits (start .args .v .now) (start .pre .0) (start .pre .1) _ _ (at-tree-words .tree-words .ensures) refl) in
-    text-there (start .args .v .now) (start .pre .0) (start .pre .1) _ _ _ S _ _ (c .before .before .copy-bytes .ensures)
+    let S = at-write-text .write-text .ensures _ _ (text-fits (start .args .v .now) (start .pre .0 .valid) (start .pre .0 .few) _ _ (at-tree-words .tree-words .ensures) refl) in
+    text-there (start .args .v .now) (start .pre .0 .valid) (start .pre .0 .few) _ _ _ S _ _ (c .before .before .copy-bytes .ensures)
 
 pub write-tree-spec : {M : Type 1} → statement M
 write-tree-spec =

@@ -26,7 +26,7 @@ returns c =
     let merged = c .before .before .before .before .merges in
     let held = merged .ensures in
     let numbered = c .before .before .before .before .before .before .before .before .before .number-leaves in (
-      before-rows (given .0) (given .1) (held .0) (held .1) (search needs) (search needs) (search needs) (numbered .ensures),
+      before-rows (given .0 .valid) (given .0 .few) (held .0) (held .1) (search needs) (search needs) (search needs) (numbered .ensures),
       rows-of-pairs (start .args .v .now) (merged .last .1 .0) (merged .last .1 .1 .0) (merged .result) (held .1),
     )
 
