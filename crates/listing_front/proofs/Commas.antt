@@ -7,38 +7,37 @@ use native.Mathlib.Omega.{arith}
 use native.Mathlib.Numerals.{add-one}
 use lib.ListN.{length, getD, take, set}
 use lib.Seq.{take-suc, length-take-le, take-all}
-use Rattle.rules.specs.Vector.{Valid, entry, bound}
+use Rattle.rules.specs.Vector.{entry, bound}
 use Rattle.rules.specs.Newick.{digits}
 use Rattle.rules.specs.Listing.{commaed}
+use Rattle.accepting.specs.FromVector.{Vector}
 use Rattle.digits.specs.Wrote.{Wrote, wrote-same, wrote-behind}
 use Rattle.listing_front.specs.Commas.{commaed-at-most, commaed-more}
 
 -- every entry has at most four digits
-pub entry-small : (v : List ℕ) (i : ℕ) → Valid v → length v ≤ 1024 → i < length v → getD v i 0 < 10000
+pub entry-small : (v : List ℕ) (i : ℕ) → Vector v → i < length v → getD v i 0 < 10000
 unfolding entry bound
-entry-small v i ok few h = omega (arith, ok .bounded i h)
+entry-small v i ok h = omega (arith, ok .few, ok .valid .bounded i h)
 
 -- the first i entries of v stand from `at` on, and what follows begins at x
 pub record Listed (v : List ℕ) (at : ℕ) (before after : List ℕ) (i x : ℕ) : Type 0 where
-  pub valid : Valid v
-  pub few : length v ≤ 1024
+  pub accepted : Vector v
   pub room : at + 5 * length v ≤ length before
   pub some-entry : 1 ≤ i
   pub within : i ≤ length v
   pub wrote : Wrote (commaed (take i v)) at before after x
 
 module _ {v : List ℕ} {at : ℕ} {before : List ℕ} where
-  pub listed-start : {after : List ℕ} {y r : ℕ} → Valid v → length v ≤ 1024 → at + 5 * length v ≤ length before
+  pub listed-start : {after : List ℕ} {y r : ℕ} → Vector v → at + 5 * length v ≤ length before
       → y ≡ getD v 0 0 → Wrote (digits 4 y) at before after r → Listed v at before after 1 r
   unfolding commaed
-  listed-start {after} {y} {r} ok few h same w =
-      let e : take 1 v ≡ getD v 0 0 ∷ [] = take-suc v 0 0 (ok .some-leaf) in
+  listed-start {after} {y} {r} ok h same w =
+      let e : take 1 v ≡ getD v 0 0 ∷ [] = take-suc v 0 0 (ok .valid .some-leaf) in
       record {
-        valid = ok;
-        few = few;
+        accepted = ok;
         room = h;
         some-entry = omega arith;
-        within = ok .some-leaf;
+        within = ok .valid .some-leaf;
         wrote = subst (λ (u : List ℕ). Wrote (commaed u) at before after r) (sym e) (subst (λ (z : ℕ). Wrote (digits 4 z) at before after r) same w);
       }
 
@@ -55,8 +54,7 @@ module _ {v : List ℕ} {at : ℕ} {before : List ℕ} where
         let e : commaed (take (i + 1) v) ≡ commaed (take i v) ++ (44 ∷ digits 4 (getD v i 0)) =
         ap commaed (ap (λ (k : ℕ). take k v) (add-one i) ∙ take-suc v i 0 h) ∙ commaed-more (take i v) (getD v i 0) (omega (arith, length-take-le i v (L .within), L .some-entry)) in
         record {
-          valid = L .valid;
-          few = L .few;
+          accepted = L .accepted;
           room = L .room;
           some-entry = omega arith;
           within = omega arith;

@@ -8,7 +8,8 @@ use native.Mathlib.Omega.{arith}
 use lib.ListN.{length, take, drop, getD, set, length-take, length-drop, length-set}
 use lib.Seq.{drop-cons, lt-length-set, getD-set-same, getD-take, getD-drop, drop-set-lt}
 use borrow.Author.Tests.{lt-ltb, le-ltb}
-use Rattle.rules.specs.Vector.{entry, bound, Valid}
+use Rattle.rules.specs.Vector.{entry, bound}
+use Rattle.accepting.specs.FromVector.{Vector}
 use Rattle.rules.specs.Building.{Merge}
 use Rattle.merging.specs.Insertion.{pairsOf, pairs, pairs-count}
 use Rattle.merging.specs.Greedy.{Under, under-pairs}
@@ -18,8 +19,7 @@ use Rattle.merges.specs.Held.{held, place, nameAt, nameIn, pairs-next, l
 
 -- list from lo on and small hold the merges of the first i entries
 pub record Built (v list small : List ℕ) (lo i : ℕ) : Type 0 where
-  pub valid : Valid v
-  pub few : length v ≤ 1024
+  pub accepted : Vector v
   pub size : length list ≡ listRoom
   pub size-small : length small ≡ 1024
   pub low : 1 ≤ i
@@ -28,15 +28,14 @@ pub record Built (v list small : List ℕ) (lo i : ℕ) : Type 0 where
   pub below : lo ≤ listMiddle
   pub listed : map (held small) (take (i - 1) (drop lo list)) ≡ pairsOf (entry v) i
 
-pub built-start : {v list small : List ℕ} → Valid v → length v ≤ 1024 → length list ≡ listRoom → length small ≡ 1024 → Built v list small listMiddle 1
+pub built-start : {v list small : List ℕ} → Vector v → length list ≡ listRoom → length small ≡ 1024 → Built v list small listMiddle 1
 unfolding pairsOf
-built-start ok few size size-small = record {
-  valid = ok;
-  few = few;
+built-start ok size size-small = record {
+  accepted = ok;
   size = size;
   size-small = size-small;
   low = omega arith;
-  high = ok .some-leaf;
+  high = ok .valid .some-leaf;
   above = omega arith;
   below = omega arith;
   listed = refl;
@@ -118,9 +117,9 @@ put-behind {list} {small} {list′} {lo} {i} {x} {d} {lo′} T h q u w e =
 pub next-leaf : {v list small : List ℕ} {lo i x : ℕ} → Built v list small lo i → i < length v → x ≡ getD v i 0 → NextLeaf list small lo i x
 unfolding entry bound
 next-leaf {v} {list} {small} {lo} {i} {x} B h ex =
-    let t = B .valid .bounded i h in
+    let t = B .accepted .valid .bounded i h in
     let top : x ≤ 2 * (i - 1) = omega arith in
-    let few = B .few in
+    let few = B .accepted .few in
     let P = pairsOf (entry v) i in
     record {
       top = top;
@@ -140,7 +139,7 @@ unfolding entry
 built-next {v} {list} {list′} {small} {small′} {lo} {lo′} {i} {x} B h ex ls p =
     let T = next-leaf B h ex in
     let P = pairsOf (entry v) i in
-    let few = B .few in
+    let few = B .accepted .few in
     let top = T .top in
     let inside = T .inside in
     let up = p .up in
@@ -151,8 +150,7 @@ built-next {v} {list} {list′} {small} {small′} {lo} {lo′} {i} {x} B h ex l
     same-name list small lo x i P
     (λ l. merge-at list small lo (i - 1) P (B .listed) (x - i) (omega arith) (omega (arith, length-take (i - 1) (drop lo list), length-drop lo list))) in
     record {
-      valid = B .valid;
-      few = B .few;
+      accepted = B .accepted;
       size = ls ∙ B .size;
       size-small = ap length (p .smaller) ∙ length-set small i (nameAt list small lo x i) ∙ B .size-small;
       low = omega arith;
@@ -168,5 +166,5 @@ pub built-end : {v list small : List ℕ} {lo i : ℕ} → Built v list small lo
 unfolding pairs
 built-end {v} {list} {small} {lo} {i} B h =
     let z : i ≡ length v = omega arith in
-    let few = B .few in
+    let few = B .accepted .few in
     (omega arith, rw z at (B .listed))

@@ -24,7 +24,7 @@ here : (c : tie.At-loop Inv-loop μ-loop) → Listed (start c .args .v .now) (st
 here c =
     let first = c .before .before .before in
     let p = start c .pre in
-    c .loop .inv (start c .args .out .now) (listed-start (p .0 .valid) (p .0 .few) (p .1) (first .before .before .wide .ensures) (first .write-label .ensures))
+    c .loop .inv (start c .args .out .now) (listed-start (p .0) (p .1) (first .before .before .wide .ensures) (first .write-label .ensures))
 
 shared-slice-read-wide : tie.Need-shared-slice-read-wide Inv-loop μ-loop
 shared-slice-read-wide c = search needs
@@ -37,7 +37,7 @@ write-label-requires c κs =
     let w = c .before .wide in
     let p = c .before .before .before .before .before .pre in
     let some-leaf = p .0 .valid .some-leaf in
-    (rw (w .ensures) (entry-small _ 0 (p .0 .valid) (p .0 .few) some-leaf), omega (arith, digits-at-most 4 (w .result)))
+    (rw (w .ensures) (entry-small _ 0 (p .0) some-leaf), omega (arith, digits-at-most 4 (w .result)))
 
 loop-holds : tie.Need-loop-holds Inv-loop μ-loop
 loop-holds c = λ before L. L
@@ -64,7 +64,7 @@ write-label-requires-2 : tie.Need-write-label-requires-2 Inv-loop μ-loop
 write-label-requires-2 c κs =
     let turn = c .before .before .before in
     let L = here (turn .before) in
-    (rw (c .before .wide2 .ensures) (entry-small _ _ (L .valid) (L .few) (turn .loop-test .taken)), simp length-set (omega (arith, listed-room L (turn .loop-test .taken), digits-at-most 4 (c .before .wide2 .result))))
+    (rw (c .before .wide2 .ensures) (entry-small _ _ (L .accepted) (turn .loop-test .taken)), simp length-set (omega (arith, listed-room L (turn .loop-test .taken), digits-at-most 4 (c .before .wide2 .result))))
 
 add-i : tie.Need-add-i Inv-loop μ-loop
 add-i c = search needs

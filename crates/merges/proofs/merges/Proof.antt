@@ -13,7 +13,7 @@ abbrev μ-loop : tie.MeasureT-loop
 μ-loop v list₀ small₀ n lo₀ i₀ list small lo i = n - i
 
 loop-holds : tie.Need-loop-holds Inv-loop μ-loop
-loop-holds c = let p = c .before .before .before .pre in built-start (p .0 .valid) (p .0 .few) (p .1) (p .2)
+loop-holds c = let p = c .before .before .before .pre in built-start (p .0) (p .1) (p .2)
 
 mul-put : tie.Need-mul-put Inv-loop μ-loop
 mul-put c = search needs
