@@ -5,3 +5,4 @@ pub mod Listed
 pub mod Sums
 pub mod Names
 pub mod Flagged
+pub mod Mapped

@@ -122,7 +122,15 @@ led-text s w h =
 
 -- a record that is accepted: its entries
 led-packed : (s w : List ℕ) → Leads (packed s) w → Led (packed s) w
-led-packed s w h = record { vector-of = unpacked-vector s w h; clades = λ c. rw (only-accepted s w h .1) (λ x. x, λ x. x) }
+led-packed s w h =
+    let e = only-accepted s w h .1 in
+    record {
+      vector-of = unpacked-vector s w h;
+      clades = λ c. (
+        λ x. subst (λ (v : List ℕ). Clade (treeOf v) c) e x,
+        λ x. subst (λ (v : List ℕ). Clade (treeOf v) c) (sym e) x,
+      );
+    }
 
 pub led : (a : Input) (v : List ℕ) → Leads a v → Led a v
 led (vector u) v h = led-vector u v h

@@ -11,6 +11,7 @@ use Rattle.rules.specs.Names.{Placed}
 use Rattle.rules.specs.Newick.{isDigit, allDigits, valueFrom, Label, nought, number, Node, label, pair, pairText, Text, text, withDigit, ending, labelsFrom, labelsOf}
 use Rattle.rules.specs.Tree.{Tree, leaf, node, size}
 use Rattle.basics.specs.Bools.{and-both}
+use Rattle.basics.specs.Mapped.{map-append}
 
 -- the leaves from left to right
 unfoldable pub leavesOf : Tree → List ℕ
@@ -24,10 +25,6 @@ leaves-size (node l r) = length-append (leavesOf l) (leavesOf r) ∙ ap₂ _+_ (
 
 abbrev pub value : Placed → ℕ
 value l = l .1
-
-pub map-append : {A B : Type 0} (f : A → B) (a b : List A) → map f (a ++ b) ≡ map f a ++ map f b
-map-append f [] b = refl
-map-append f (x ∷ a) b = ap (λ l. f x ∷ l) (map-append f a b)
 
 ending-append : (l : Option Placed) (a b : List Placed) → ending l a ++ b ≡ ending l (a ++ b)
 unfolding ending

@@ -1,5 +1,5 @@
 -- The words of a tree's nodes: those of the leaves, and behind them, row by row, those of the pairs.
--- Main definitions: Paired, PairRoom, Pairing, vectorRows. Main results: pairing-start, pairing-room, pairing-next, pairing-end, vector-paired.
+-- Main definitions: Paired, PairRoom, Pairing. Main results: pairing-start, pairing-room, pairing-next, pairing-end, vector-paired.
 use mathlib.Core.List.{List, map}
 use mathlib.Core.Path.{_≡_, sym, ap, subst, _∙_}
 use Prim.Native.Nat.{ℕ, _+_, _-_, _*_, _≤_, _<_}
@@ -7,9 +7,10 @@ use native.Mathlib.Omega.{arith}
 use lib.ListN.{length, getD, set, length-set, take, drop}
 use lib.Seq.{getD-set-same, getD-set-other}
 use borrow.Author.Count.{below-more}
-use Rattle.rules.specs.Table.{Row, rowsFrom}
+use Rattle.rules.specs.Table.{Row}
 use Rattle.merging.specs.Insertion.{pairs}
 use Rattle.merges.specs.Held.{held}
+use Rattle.written_tables.specs.Rows.{vectorRows}
 use Rattle.numbering.specs.Numbered.{heldRows, BeforeRows, Numbered, next-merge, numbered-start, numbered-next, row-at, rows-of-pairs}
 use Rattle.label_words.specs.Leaves.{wordPlaces, leavesPlace, LeafWords}
 
@@ -67,10 +68,6 @@ module _ {list small : List ℕ} {start n : ℕ} {number₀ number words : List 
 
   pub pairing-end : n - 1 ≤ t → Paired n (heldRows list small start n) words
   pairing-end h = record { leaf-words = P .paired .leaf-words; pair-words = λ j g. P .paired .pair-words j (omega arith) }
-
--- the rows of a vector
-abbrev pub vectorRows : List ℕ → List Row
-vectorRows v = rowsFrom (length v) (λ c. c) (pairs v)
 
 -- the rows of the merges of a vector
 pub vector-paired : (v list small : List ℕ) (start : ℕ) (words : List ℕ) → map (held small) (take (length v - 1) (drop start list)) ≡ pairs v

@@ -6,10 +6,8 @@ ghost use lib.ListN.{length};
 ghost use Rattle.accepting.specs.FromVector.{Vector};
 ghost use Rattle.numbering.specs.Numbered.{BeforeRows, heldRows};
 ghost use Rattle.label_words.specs.Leaves.{wordPlaces, LeafWords};
-ghost use Rattle.node_words.specs.Paired.{Paired, vectorRows};
-
-// How many places the list of merges has.
-const PLACES: usize = 2080;
+ghost use Rattle.written_tables.specs.Rows.{vectorRows};
+ghost use Rattle.node_words.specs.Paired.{Paired};
 
 // The word of a pair, by its two children.
 fn pair_word(first: u16, second: u16) -> u32
@@ -46,7 +44,7 @@ pub fn tree_words(v: &[u16], words: &mut [u32])
     requires { ⌜ Vector (now v) × (length (now words) ≡ wordPlaces) ⌝ }
     ensures { λ _. ⌜ Paired (length (now (v .entry))) (vectorRows (now (v .entry))) (now (words .exit)) ⌝ }
 {
-    let mut list = [0u16; PLACES];
+    let mut list = [0u16; merges::ROOM];
     let mut small = [0u16; 1024];
     let mut number = [0u16; 1024];
     lists::number_leaves(&mut number, v.len());

@@ -7,6 +7,7 @@ use native.Mathlib.Numerals.{add-one}
 use native.Mathlib.Omega.{arith}
 use lib.ListN.{length, getD, set, take, drop, length-set, length-take, length-map, List·getD-append}
 use lib.Seq.{getD-take, take-suc, drop-cons, set-at, getD-at, append-snoc}
+use Rattle.basics.specs.Mapped.{map-append}
 use Rattle.shuffle_laws.specs.Rows.{renamedChild}
 
 -- the first k children with the leaves renamed by p, and the rest
@@ -20,10 +21,6 @@ getD-map : (f : ℕ → ℕ) (xs : List ℕ) (i : ℕ) → i < length xs → get
 getD-map f [] i h = absurd (omega arith)
 getD-map f (x ∷ xs) zero h = refl
 getD-map f (x ∷ xs) (suc i) h = getD-map f xs i (omega arith)
-
-map-append : (f : ℕ → ℕ) (xs ys : List ℕ) → map f (xs ++ ys) ≡ map f xs ++ map f ys
-map-append f [] ys = refl
-map-append f (x ∷ xs) ys = ap (λ (l : List ℕ). f x ∷ l) (map-append f xs ys)
 
 -- a child that is renamed
 pub renamed-at : (n : ℕ) (p : List ℕ) (k : ℕ) (xs : List ℕ) (i : ℕ) → k ≤ length xs → i < k

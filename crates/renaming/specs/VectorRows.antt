@@ -1,5 +1,5 @@
 -- The rows of a vector, by their children, and the same rows with renamed leaves.
--- Main definitions: vectorRows, RowsOf, Renamed. Main results: rows-of, rows-tree, rows-renamed, renamed-count, renamed-front.
+-- Main definitions: RowsOf, Renamed. Main results: rows-of, rows-tree, rows-renamed, renamed-count, renamed-front.
 use mathlib.Core.List.{List, [], _∷_, _++_, map}
 use mathlib.Core.Option.{none}
 use mathlib.Core.Path.{_≡_, refl, sym, ap, _∙_}
@@ -18,16 +18,12 @@ use Rattle.laws.specs.TreeOf.{tree-by-pairs, tree-leaves}
 use Rattle.shuffle_laws.specs.Permutation.{permutes}
 use Rattle.shuffle_laws.specs.Renaming.{renamed-below}
 use Rattle.shuffle_laws.specs.Rows.{renamedRows, renamed-rows}
-use Rattle.written_tables.specs.Rows.{first, second, rows-length, parent-at}
+use Rattle.written_tables.specs.Rows.{first, second, vectorRows, rows-length, parent-at}
 use Rattle.written_tables.specs.Accepted.{pairs-accepted}
 use Rattle.written_tables.specs.Grown.{pairs-tree}
 use Rattle.children_order.specs.Children.{Children}
 use Rattle.shuffle_laws.specs.Zipped.{zippedRows, zippedTree, zipped-is, zipped-renamed, getD-zipped, length-zipped}
 use Rattle.renaming.specs.Renames.{renamedTo, renamed-at}
-
--- the rows of a vector's table
-unfoldable pub vectorRows : List ℕ → List Row
-vectorRows v = rowsFrom (length v) (λ c. c) (pairs v)
 
 -- left and right hold the children of these rows
 pub record RowsOf (v left right : List ℕ) : Type 0 where
@@ -37,7 +33,7 @@ pub record RowsOf (v left right : List ℕ) : Type 0 where
   pub rows : zippedRows (length v) left right ≡ vectorRows v
 
 rows-count : (v : List ℕ) → Valid v → length (vectorRows v) ≡ length v - 1
-unfolding vectorRows pairs
+unfolding pairs
 rows-count v ok = rows-length (length v) (λ c. c) (pairs v) ∙ pairs-count (entry v) (length v)
 
 -- an element of a list that begins with the children of rows
@@ -49,7 +45,7 @@ child-at f (r ∷ rs) rest (suc t) h = child-at f rs rest t (omega arith)
 -- what the code that writes the rows of a vector leaves
 pub rows-of : (v left right rest rest′ : List ℕ) → Valid v → length left ≡ 1024 → length right ≡ 1024 → length v ≤ 1024
     → left ≡ map first (rowsFrom (length v) (λ c. c) (pairs v)) ++ rest → right ≡ map second (rowsFrom (length v) (λ c. c) (pairs v)) ++ rest′ → RowsOf v left right
-unfolding vectorRows pairs
+unfolding pairs
 rows-of v left right rest rest′ ok a b u p q = record {
   valid = ok;
   lefts = omega arith;
@@ -70,11 +66,9 @@ rows-of v left right rest rest′ ok a b u p q = record {
 
 -- the tree of these rows is the vector's
 pub rows-tree : {v left right : List ℕ} → RowsOf v left right → zippedTree (length v) left right ≡ treeOf v
-unfolding vectorRows
 rows-tree {v} R = ap (tableTree (length v)) (R .rows) ∙ pairs-tree v (R .valid) ∙ sym (tree-by-pairs v (R .valid))
 
 pub rows-fine : {v left right : List ℕ} → RowsOf v left right → tableFault (length v) (zippedRows (length v) left right) ≡ none
-unfolding vectorRows
 rows-fine {v} R = ap (tableFault (length v)) (R .rows) ∙ pairs-accepted v (R .valid)
 
 -- the rows with renamed leaves

@@ -10,7 +10,7 @@ use lib.ListN.{length, set, take, drop, length-map, length-append}
 use lib.Seq.{sets, sets-eq, take-at}
 use Rattle.rules.specs.Tree.{Tree, leaf, node, has, LeavesBelow}
 use Rattle.rules.specs.Table.{Row, tableFault, tableTree}
-use Rattle.grammar.specs.Labels.{map-append}
+use Rattle.basics.specs.Mapped.{map-append}
 use Rattle.grammar.specs.Stores.{sets-append}
 use Rattle.grammar.specs.Pairs.{pairCount, childCode, pairsFrom, pairs-length, size-pairs}
 use Rattle.written_tables.specs.Tied.{tied}

@@ -12,7 +12,8 @@ use Rattle.laws.specs.TreeOf.{tree-leaves}
 use Rattle.grammar.specs.Length.{textLength, text-length, text-length-most}
 use Rattle.written_tables.specs.Tied.{wholeTree}
 use Rattle.text_writer.specs.Output.{signPlaces, TextRoom, Stands}
-use Rattle.node_words.specs.Paired.{Paired, vectorRows}
+use Rattle.written_tables.specs.Rows.{vectorRows}
+use Rattle.node_words.specs.Paired.{Paired}
 use Rattle.tree_text.specs.OrderedRows.{lefts, rights, left-at, right-at, rows-ordered, rows-tree}
 
 module _ (v : List ℕ) (ok : Valid v) (few : length v ≤ 1024) where

@@ -18,11 +18,10 @@ use Rattle.merging.specs.Rest.{rising-first}
 use Rattle.growing.specs.Grown.{least-grown}
 use Rattle.laws.specs.TreeOf.{tree-by-pairs}
 use Rattle.written_tables.specs.Tied.{tied, treeAt, wholeTree, tree-whole}
-use Rattle.written_tables.specs.Rows.{first, second, rows-length, tied-rows}
+use Rattle.written_tables.specs.Rows.{first, second, vectorRows, rows-length, tied-rows}
 use Rattle.written_tables.specs.Accepted.{pairs-below}
 use Rattle.written_tables.specs.Grown.{same-start, row-clusters, pairs-tree}
 use Rattle.text_writer.specs.Output.{Ordered}
-use Rattle.node_words.specs.Paired.{vectorRows}
 
 -- the smaller name of each merge is first
 rising-at : (P : List Merge) → Rising P → (j : ℕ) → j < length P → getD P j (0, 0) .0 < getD P j (0, 0) .1
