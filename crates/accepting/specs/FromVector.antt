@@ -1,5 +1,5 @@
 -- The calls that begin from a vector: when they refuse with 1 or 4, and when they go on.
--- Main definitions: Vector, Seen. Main results: no-entry, many-entries, above-bound, within-bounds, vector-accepted, seen.
+-- Main definition: Seen. Main results: no-entry, many-entries, above-bound, within-bounds, vector-accepted, seen.
 use mathlib.Core.Bool.{Bool, true, false}
 use mathlib.Core.List.{List}
 use mathlib.Core.Option.{Option, none, some}
@@ -9,7 +9,7 @@ use native.Mathlib.Omega.{arith}
 use lib.Dec.{eqb, ltb}
 use lib.ListN.{length}
 use borrow.Author.Tests.{ltb-true, ltb-false, eqb-true, eqb-false}
-use Rattle.rules.specs.Vector.{Valid, fault}
+use Rattle.rules.specs.Vector.{Vector, fault}
 use Rattle.rules.specs.Answer.{Making, refuses}
 use Rattle.rules.specs.Guards.{fromVector}
 use Rattle.basics.specs.Fault.{no-fault-valid, valid-no-fault}
@@ -32,11 +32,6 @@ above-bound v m i l h e = some-leaves (length v) _ l h ∙ refuse-at 4 i (fault 
 pub within-bounds : {W : Type 0} (v : List ℕ) (m : Making W) → 1 ≤ length v → length v ≤ 1024 → fault 0 v ≡ none → fromVector v m ≡ m
 unfolding fromVector
 within-bounds v m l h e = some-leaves (length v) _ l h ∙ pass-at 4 (fault 0 v) m e
-
--- the vectors that every call accepts: valid, of up to 1,024 entries
-pub record Vector (v : List ℕ) : Type 0 where
-  pub valid : Valid v
-  pub few : length v ≤ 1024
 
 pub vector-accepted : {W : Type 0} (v : List ℕ) (m : Making W) → Vector v → fromVector v m ≡ m
 vector-accepted v m ok = within-bounds v m (ok .valid .some-leaf) (ok .few) (valid-no-fault v (ok .valid))

@@ -14,7 +14,8 @@ use Rattle.rules.specs.Answer.{Making, refuses}
 use Rattle.rules.specs.Guards.{refuseCount}
 use Rattle.searching.specs.First.{FirstFound, first-at, nowhere, found-first, found-none}
 use Rattle.accepting.specs.Guards.{no-leaf, many-leaves, some-leaves}
-use Rattle.demands.specs.Conditions.{First, CountWrong, CountRight, Above, WithinBounds}
+use Rattle.demands.specs.Conditions.{CountWrong, CountRight, Above, WithinBounds}
+use Rattle.rules.specs.First.{First}
 use Rattle.demands.specs.FirstPlace.{above-found}
 
 -- the leaf count is wrong or right

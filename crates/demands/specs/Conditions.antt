@@ -10,8 +10,6 @@ use Rattle.rules.specs.Table.{Row}
 use Rattle.rules.specs.Names.{Placed}
 use Rattle.rules.specs.Newick.{labelsOf}
 use Rattle.rules.specs.Record.{bitsOf, total}
--- First: "Of one number, the first place counts."
-pub use Rattle.searching.specs.First.{First}
 
 -- 1: "leaf count 0 or above 1,024"
 abbrev pub CountWrong : ℕ → Type 0

@@ -30,7 +30,7 @@ use Rattle.laws.specs.TreeOf.{tree-leaves, vector-again}
 use Rattle.accepting.specs.FromTable.{rows-accepted}
 use Rattle.accepting.specs.FromVector.{vector-accepted}
 -- Vector: the vectors that the demand is about
-pub use Rattle.accepting.specs.FromVector.{Vector}
+pub use Rattle.rules.specs.Vector.{Vector}
 use Rattle.demands.specs.Conditions.{CountRight, WithinBounds}
 use Rattle.demands.specs.Law.{made-accepted, done-written}
 use Rattle.demands.specs.LawVector.{VectorRefused, vector-cases, vector-valid}

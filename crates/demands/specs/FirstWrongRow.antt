@@ -12,7 +12,8 @@ use borrow.Author.Tests.{ltb-true, ltb-false, eqb-true, eqb-false, eq-eqb}
 use Rattle.rules.specs.Table.{Row, Fault, rowFault, tableFault, childrenBelow, namedTwice}
 use Rattle.basics.specs.Bools.{or-left, or-right}
 use Rattle.read_tables.specs.Forest.{namedAlso}
-use Rattle.searching.specs.First.{First, Tells, is-wrong, is-right, orElse, FirstFound, found-first, found-same}
+use Rattle.searching.specs.First.{Tells, is-wrong, is-right, orElse, FirstFound, found-first, found-same}
+use Rattle.rules.specs.First.{First}
 use Rattle.searching.specs.Walked.{Walk, gathered, gathered-some, walk-found}
 use Rattle.demands.specs.Conditions.{rowAt, NamedBefore, WrongRow, parent-wrong, child-not-below, child-named, RowWrong, FirstRow}
 

@@ -18,7 +18,8 @@ use Rattle.grammar.specs.Labels.{text-label-count}
 use Rattle.grammar.specs.Unique.{from-text-total, from-text-unique}
 use Rattle.searching.specs.First.{FirstFound, first-at, nowhere, found-first}
 use Rattle.accepting.specs.Guards.{refuse-at, pass-at}
-use Rattle.demands.specs.Conditions.{First, CountWrong, CountRight, Unfit, labelNumbers, labelPlace}
+use Rattle.demands.specs.Conditions.{CountWrong, CountRight, Unfit, labelNumbers, labelPlace}
+use Rattle.rules.specs.First.{First}
 use Rattle.demands.specs.FirstPlace.{label-found}
 use Rattle.demands.specs.Cases.{count-cases, count-given, count-passes}
 use Rattle.demands.specs.Law.{OfInput, Settled, Lawful}

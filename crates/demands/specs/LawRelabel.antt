@@ -17,7 +17,8 @@ use Rattle.rules.specs.Guards.{refuseAt, refuseLength, fromVector}
 use Rattle.rules.specs.CallRelabel.{relabel, relabel-call}
 use Rattle.searching.specs.First.{FirstFound, first-at, nowhere, found-first}
 use Rattle.accepting.specs.Guards.{wrong-length, right-length, refuse-at}
-use Rattle.demands.specs.Conditions.{First, CountRight, WithinBounds, Unfit}
+use Rattle.demands.specs.Conditions.{CountRight, WithinBounds, Unfit}
+use Rattle.rules.specs.First.{First}
 use Rattle.demands.specs.FirstPlace.{unfit-found}
 use Rattle.demands.specs.Cases.{equal-cases}
 use Rattle.demands.specs.Law.{OfInput, Settled, Lawful, lawful-made}

@@ -15,7 +15,8 @@ use Rattle.rules.specs.Answer.{numberOf, made, refuses}
 use Rattle.rules.specs.Promise.{list}
 use Rattle.rules.specs.CallUnpack.{unpack, unpack-call}
 use Rattle.record_laws.specs.FromRecord.{Headed, Accepted, length-entries, under-two-bytes, counted, wrong-record, entry-refused, padding-refused, record-accepted}
-use Rattle.demands.specs.Conditions.{First, CountWrong, CountRight, Above, WithinBounds, PaddingSet}
+use Rattle.demands.specs.Conditions.{CountWrong, CountRight, Above, WithinBounds, PaddingSet}
+use Rattle.rules.specs.First.{First}
 use Rattle.demands.specs.FirstPlace.{padding-found}
 use Rattle.demands.specs.Cases.{count-cases, count-given, equal-cases, above-cases, above-given, within-given}
 use Rattle.demands.specs.Law.{OfInput, Settled, Lawful, lawful-made}

@@ -11,7 +11,8 @@ use Rattle.rules.specs.Vector.{Valid, fault}
 use Rattle.rules.specs.Answer.{numberOf, Making, made, refuses}
 use Rattle.rules.specs.Guards.{refuseAt, fromVector}
 use Rattle.accepting.specs.FromVector.{above-bound, within-bounds}
-use Rattle.demands.specs.Conditions.{First, CountWrong, CountRight, Above, WithinBounds}
+use Rattle.demands.specs.Conditions.{CountWrong, CountRight, Above, WithinBounds}
+use Rattle.rules.specs.First.{First}
 use Rattle.demands.specs.Cases.{count-cases, count-given, above-cases, above-given, within-given}
 use Rattle.demands.specs.Law.{OfInput, Settled}
 

@@ -12,7 +12,7 @@ use lib.Dec.{ltb}
 use lib.ListN.{length}
 use lib.Seq.{take-all}
 use borrow.Author.Tests.{ltb-true, lt-ltb}
-use Rattle.rules.specs.Vector.{Valid, entry}
+use Rattle.rules.specs.Vector.{Valid, entry, Vector}
 use Rattle.rules.specs.Tree.{Tree, treeOf, LeavesBelow, Clade, SameClades}
 use Rattle.rules.specs.Order.{listed, vectorOf}
 use Rattle.rules.specs.Shuffle.{renamed, permutationFault, newOf}
@@ -28,7 +28,7 @@ use Rattle.shuffle_laws.specs.Renaming.{renamed-below, renamed-clades}
 use Rattle.shuffle_laws.specs.Taken.{new-permutes}
 use Rattle.shuffle_laws.specs.Shuffled.{shuffled-ordered}
 use Rattle.accepting.specs.Guards.{right-length, pass-at}
-use Rattle.accepting.specs.FromVector.{Vector, vector-accepted}
+use Rattle.accepting.specs.FromVector.{vector-accepted}
 use Rattle.laws.specs.TreeOf.{tree-leaves}
 use Rattle.laws.specs.OneToOne.{every-tree, only-vector}
 

@@ -16,7 +16,7 @@ use Rattle.rules.specs.Promise.{answers, holds, Keeps}
 use Rattle.rules.specs.CallUnpack.{unpack, unpack-call}
 use Rattle.rules.specs.Listing.{lineOf, then, lineFor}
 use Rattle.accepting.specs.Answers.{done-same, done-not-refused}
-use Rattle.accepting.specs.FromVector.{Vector}
+use Rattle.rules.specs.Vector.{Vector}
 use Rattle.record_laws.specs.FromRecord.{unpacked-vector}
 
 -- what stands at the front of the buffer where unpacking is done: a vector that every call accepts

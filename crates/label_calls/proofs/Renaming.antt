@@ -19,7 +19,8 @@ use Rattle.laws.specs.TreeOf.{tree-leaves}
 use Rattle.shuffle_laws.specs.Taken.{new-no-fault}
 use Rattle.permutation.specs.Marks.{placeOf}
 use Rattle.renaming.specs.VectorRows.{renamed-count}
-use Rattle.accepting.specs.FromVector.{Vector, vector-accepted}
+use Rattle.accepting.specs.FromVector.{vector-accepted}
+use Rattle.rules.specs.Vector.{Vector}
 
 pub shuffle-made : (v : List ℕ) → Vector v → shuffle v ≡ made (newOf (treeOf v), vectorOf (renamed (newOf (treeOf v)) (treeOf v)))
 unfolding shuffle

@@ -7,10 +7,9 @@ use native.Mathlib.Omega.{arith}
 use native.Mathlib.Numerals.{add-one}
 use lib.ListN.{length, getD, take, set}
 use lib.Seq.{take-suc, length-take-le, take-all}
-use Rattle.rules.specs.Vector.{entry, bound}
+use Rattle.rules.specs.Vector.{entry, bound, Vector}
 use Rattle.rules.specs.Newick.{digits}
 use Rattle.rules.specs.Listing.{commaed}
-use Rattle.accepting.specs.FromVector.{Vector}
 use Rattle.digits.specs.Wrote.{Wrote, wrote-same, wrote-behind}
 use Rattle.listing_front.specs.Commas.{commaed-at-most, commaed-more}
 

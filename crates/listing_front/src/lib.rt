@@ -1,7 +1,7 @@
 // The front of a line of the listing: n, a space, the vector with commas, a space. The text follows it.
 ghost use Prim.Native.Nat.{_+_, _*_, _≤_};
 ghost use lib.ListN.{length};
-ghost use Rattle.accepting.specs.FromVector.{Vector};
+ghost use Rattle.rules.specs.Vector.{Vector};
 ghost use Rattle.rules.specs.Listing.{commaed};
 ghost use Rattle.digits.specs.Wrote.{Wrote};
 ghost use Rattle.listing_front.specs.Front.{frontOf};

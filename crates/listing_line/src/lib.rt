@@ -2,7 +2,7 @@
 use rules::Answer;
 ghost use Prim.Native.Nat.{_+_, _≤_};
 ghost use lib.ListN.{length};
-ghost use Rattle.accepting.specs.FromVector.{Vector};
+ghost use Rattle.rules.specs.Vector.{Vector};
 ghost use Rattle.rules.specs.Tree.{treeOf};
 ghost use Rattle.rules.specs.Newick.{textOf};
 ghost use Rattle.rules.specs.Listing.{lineOf};

@@ -8,8 +8,7 @@ use native.Mathlib.Omega.{arith}
 use lib.ListN.{length, take, drop, getD, set, length-take, length-drop, length-set}
 use lib.Seq.{drop-cons, lt-length-set, getD-set-same, getD-take, getD-drop, drop-set-lt}
 use borrow.Author.Tests.{lt-ltb, le-ltb}
-use Rattle.rules.specs.Vector.{entry, bound}
-use Rattle.accepting.specs.FromVector.{Vector}
+use Rattle.rules.specs.Vector.{entry, bound, Vector}
 use Rattle.rules.specs.Building.{Merge}
 use Rattle.merging.specs.Insertion.{pairsOf, pairs, pairs-count}
 use Rattle.merging.specs.Greedy.{Under, under-pairs}

@@ -4,7 +4,7 @@ ghost use mathlib.Core.Path.{_≡_};
 ghost use mathlib.Core.List.{map};
 ghost use Prim.Native.Nat.{_+_, _-_, _≤_};
 ghost use lib.ListN.{length, take, drop};
-ghost use Rattle.accepting.specs.FromVector.{Vector};
+ghost use Rattle.rules.specs.Vector.{Vector};
 ghost use Rattle.merging.specs.Insertion.{pairs};
 ghost use Rattle.merges.specs.Room.{listRoom};
 ghost use Rattle.merges.specs.Held.{held};

@@ -3,7 +3,7 @@ use numbers::wide;
 ghost use mathlib.Core.Path.{_≡_};
 ghost use Prim.Native.Nat.{_+_, _*_};
 ghost use lib.ListN.{length};
-ghost use Rattle.accepting.specs.FromVector.{Vector};
+ghost use Rattle.rules.specs.Vector.{Vector};
 ghost use Rattle.numbering.specs.Numbered.{BeforeRows, heldRows};
 ghost use Rattle.label_words.specs.Leaves.{wordPlaces, LeafWords};
 ghost use Rattle.written_tables.specs.Rows.{vectorRows};

@@ -10,7 +10,7 @@ use Prim.Native.Nat.{ℕ, _-_, _≤_, _<_}
 use lib.Dec.{ltb}
 use lib.ListN.{length}
 use borrow.Author.Tests.{ltb-false, lt-ltb, le-ltb}
-use Rattle.rules.specs.Vector.{fault}
+use Rattle.rules.specs.Vector.{fault, Vector}
 use Rattle.rules.specs.Record.{leafCount, recordLength, entryIn, bitsOf, entriesOf, anySet, padding}
 use Rattle.rules.specs.Answer.{made, refuses}
 use Rattle.rules.specs.Guards.{refuseCount, refuseLength}
@@ -18,7 +18,6 @@ use Rattle.rules.specs.CallUnpack.{fromEntries, unpack}
 use Rattle.basics.specs.Listed.{length-listed}
 use Rattle.basics.specs.Fault.{no-fault-valid}
 use Rattle.accepting.specs.Answers.{made-same}
-use Rattle.accepting.specs.FromVector.{Vector}
 use Rattle.accepting.specs.Guards.{some-leaves, wrong-length, right-length, refuse-if, pass-if, refuse-at, pass-at, passed-count, passed-length, passed-if, passed-at}
 
 -- "2 (under 2 bytes, place 2)"

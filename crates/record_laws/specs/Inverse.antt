@@ -10,12 +10,11 @@ use native.Mathlib.Nat.{zero-add}
 use native.Mathlib.Omega.{arith}
 use lib.ListN.{length, take, drop, getD, replicate, length-append, length-take, length-drop, take-append-drop}
 use lib.Seq.{take-at, drop-at, take-add}
-use Rattle.rules.specs.Vector.{entry, Valid, fault}
+use Rattle.rules.specs.Vector.{entry, Valid, fault, Vector}
 use Rattle.rules.specs.Order.{listed}
 use Rattle.rules.specs.Record.{Bits, total, recordLength, field, number, fields, bytesOf, recordOf, bitsOf, leafCount, entryIn, entriesOf, anySet, padding}
 use Rattle.rules.specs.Answer.{made}
 use Rattle.rules.specs.CallUnpack.{unpack}
-use Rattle.accepting.specs.FromVector.{Vector}
 use Rattle.basics.specs.Listed.{length-listed}
 use Rattle.basics.specs.Fault.{valid-no-fault}
 use Rattle.record_laws.specs.Number.{AreBits, are-append, are-take, are-drop, are-field, length-field, number-of-field, field-of}

@@ -10,6 +10,7 @@ pub mod Shuffle
 pub mod Answer
 pub mod Promise
 pub mod Coded
+pub mod First
 pub mod Guards
 pub mod CallCheck
 pub mod CallToTable

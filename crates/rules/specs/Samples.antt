@@ -13,6 +13,7 @@ use native.Mathlib.Bridge.{le-by-compare, IsLe}
 use native.Mathlib.Omega.{arith}
 use lib.Dec.{eqb}
 use lib.ListN.{length, replicate}
+use Rattle.rules.specs.First.{First}
 use Rattle.rules.specs.Building.{Merge, State, below, start, next, merge, merges}
 use Rattle.rules.specs.Vector.{entry, bound, Valid}
 use Rattle.rules.specs.Tree.{leaf, treeOf}
@@ -354,3 +355,7 @@ listings =
 listings-hold : Hold listings × (commaed (1000 ∷ 1000 ∷ []) ≡ bytes "1000,1000") × (refusedLine 2 1280 ≡ bytes "refused 2 1280\n")
 unfolding listing commaed refusedLine
 listings-hold = (refl, refl, refl)
+
+-- of the places from 2 on, 2 is the first
+first-of-many : First (λ i. 2 ≤ i) 2
+first-of-many = (omega arith, λ j h w. omega arith)

@@ -1,5 +1,5 @@
 -- The vector: its entries, their bounds, and the first entry above its bound.
--- Main definitions: entry, bound, Valid, fault.
+-- Main definitions: entry, bound, Valid, Vector, fault.
 use mathlib.Core.Bool.{cond}
 use mathlib.Core.List.{List, [], _∷_}
 use mathlib.Core.Option.{Option, none, some}
@@ -19,6 +19,11 @@ bound i = 2 * (i - 1)
 pub record Valid (v : List ℕ) : Type 0 where
   pub some-leaf : 1 ≤ length v
   pub bounded : (i : ℕ) → i < length v → entry v i ≤ bound i
+
+-- a vector that is accepted: of no "leaf count 0 or above 1,024", and each entry within its bound
+pub record Vector (v : List ℕ) : Type 0 where
+  pub valid : Valid v
+  pub few : length v ≤ 1024
 
 -- the place of refusal 4: the first entry above its bound, where the first of these entries is number i
 unfoldable pub fault : ℕ → List ℕ → Option ℕ

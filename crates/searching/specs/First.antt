@@ -1,5 +1,5 @@
 -- "Of one number, the first place counts": the first of any number of places at which something is wrong, and what is said of it.
--- Main definitions: First, Tells, firstBelow, FirstFound. Main results: first-unique, first-below-found, found-first, found-none, found-same.
+-- Main definitions: Tells, firstBelow, FirstFound. Main results: first-unique, first-below-found, found-first, found-none, found-same.
 use mathlib.Core.Bool.{Bool, true, false, cond}
 use mathlib.Core.Logic.{_⊎_, inl, inr}
 use mathlib.Core.Option.{Option, none, some}
@@ -9,10 +9,7 @@ use native.Mathlib.Omega.{arith}
 use native.Mathlib.Nat.{eq-or-lt-of-le, le-of-suc-le-suc}
 use lib.Dec.{ltb}
 use borrow.Author.Tests.{ltb-true, ltb-false}
-
--- something is wrong at place i, and at no place before
-abbrev pub First : (ℕ → Type 0) → ℕ → Type 0
-First Wrong i = Wrong i × ((j : ℕ) → j < i → Wrong j → ⊥)
+use Rattle.rules.specs.First.{First}
 
 -- the first place is one
 pub first-unique : (Wrong : ℕ → Type 0) (i j : ℕ) → First Wrong i → First Wrong j → i ≡ j

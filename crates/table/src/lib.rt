@@ -4,7 +4,7 @@ ghost use mathlib.Core.Path.{_≡_};
 ghost use mathlib.Core.List.{_++_};
 ghost use Prim.Native.Nat.{_-_, _*_, _≤_};
 ghost use lib.ListN.{length, drop};
-ghost use Rattle.accepting.specs.FromVector.{Vector};
+ghost use Rattle.rules.specs.Vector.{Vector};
 ghost use Rattle.rules.specs.Table.{flat};
 ghost use Rattle.written_tables.specs.Rows.{vectorRows};
 ghost use Rattle.table.specs.Written.{childRows};

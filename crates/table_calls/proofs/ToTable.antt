@@ -10,7 +10,8 @@ use Rattle.rules.specs.CallToTable.{toTable}
 use Rattle.merging.specs.Insertion.{pairs}
 use Rattle.building.specs.Built.{merges-are-pairs, merges-length}
 use Rattle.written_tables.specs.Rows.{table-length}
-use Rattle.accepting.specs.FromVector.{Vector, vector-accepted}
+use Rattle.accepting.specs.FromVector.{vector-accepted}
+use Rattle.rules.specs.Vector.{Vector}
 
 pub table-made : (v : List ℕ) → Vector v → toTable v ≡ made (flat (rowsFrom (length v) (λ c. c) (pairs v)))
 unfolding toTable

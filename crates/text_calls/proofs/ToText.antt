@@ -10,7 +10,8 @@ use Rattle.rules.specs.Answer.{made}
 use Rattle.rules.specs.CallToNewick.{toText}
 use Rattle.laws.specs.TreeOf.{tree-leaves}
 use Rattle.grammar.specs.Length.{textLength, text-length}
-use Rattle.accepting.specs.FromVector.{Vector, vector-accepted}
+use Rattle.accepting.specs.FromVector.{vector-accepted}
+use Rattle.rules.specs.Vector.{Vector}
 
 pub text-made : (v : List ℕ) → Vector v → toText v ≡ made (textOf (treeOf v))
 unfolding toText

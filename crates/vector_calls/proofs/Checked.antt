@@ -14,7 +14,8 @@ use Rattle.rules.specs.declared.Answer.the-variants.{Done, Refused}
 use Rattle.rules.specs.Guards.{fromVector}
 use Rattle.accepting.specs.Answers.{done-not-refused}
 use Rattle.accepting.specs.Kept.{refused-early}
-use Rattle.accepting.specs.FromVector.{no-entry, many-entries, above-bound, within-bounds, Vector, Seen, faulty, sound, seen}
+use Rattle.accepting.specs.FromVector.{no-entry, many-entries, above-bound, within-bounds, Seen, faulty, sound, seen}
+use Rattle.rules.specs.Vector.{Vector}
 use Rattle.vector.specs.Fault.{firstFault, first-fault-some, first-fault-none}
 
 pub empty-refused : (v : List ℕ) → length v ≡ 0 → check v ≡ refuses 1 0

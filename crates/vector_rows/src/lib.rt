@@ -4,7 +4,7 @@ ghost use mathlib.Core.Path.{_≡_};
 ghost use mathlib.Core.List.{_++_, map};
 ghost use Prim.Native.Nat.{_-_};
 ghost use lib.ListN.{length, drop};
-ghost use Rattle.accepting.specs.FromVector.{Vector};
+ghost use Rattle.rules.specs.Vector.{Vector};
 ghost use Rattle.merges.specs.Room.{listRoom};
 ghost use Rattle.written_tables.specs.Rows.{first, second, vectorRows};
 ghost use Rattle.numbering.specs.Numbered.{heldRows, BeforeRows};

@@ -6,7 +6,8 @@ use Prim.Native.Nat.{ℕ}
 use Rattle.rules.specs.Record.{recordOf}
 use Rattle.rules.specs.Answer as answers
 use Rattle.rules.specs.CallPack as calls
-use Rattle.accepting.specs.FromVector.{Vector, vector-accepted}
+use Rattle.accepting.specs.FromVector.{vector-accepted}
+use Rattle.rules.specs.Vector.{Vector}
 use Rattle.accepting.specs.Kept.{short-room, full-list}
 use Rattle.record_laws.specs.Inverse.{length-record}
 use Rattle.vector_calls.proofs.Checked.{checked-sound, refused-alike}
