@@ -2,12 +2,13 @@
 -- in its file here (Law*).
 -- Main definitions: Name, Public, the, Lent, Kept.
 use mathlib.Core.List.{List}
-use Prim.Native.Nat.{ℕ, _-_, _*_}
+use Prim.Native.Nat.{ℕ, _-_, _*_, _/_}
 use lib.ListN.{length}
 use Rattle.rules.specs.declared.Answer.{Answer}
 use Rattle.rules.specs.Tree.{treeOf}
 use Rattle.rules.specs.Newick.{textOf, labelsOf}
 use Rattle.rules.specs.Record.{recordLength, leafCount}
+use Rattle.rules.specs.Archive.{impliedLength}
 use Rattle.rules.specs.Promise.{Call, Keeps}
 use Rattle.rules.specs.CallCheck.{check-call}
 use Rattle.rules.specs.CallToTable.{to-table-call}
@@ -16,6 +17,8 @@ use Rattle.rules.specs.CallToNewick.{to-newick-call}
 use Rattle.rules.specs.CallFromNewick.{from-newick-call}
 use Rattle.rules.specs.CallPack.{pack-call}
 use Rattle.rules.specs.CallUnpack.{unpack-call}
+use Rattle.rules.specs.CallWriteArchive.{write-archive-call}
+use Rattle.rules.specs.CallReadTree.{read-tree-call}
 use Rattle.rules.specs.CallShuffle.{shuffle-call}
 use Rattle.rules.specs.CallRelabel.{relabel-call}
 use Rattle.demands.specs.Law.{Lawful}
@@ -28,6 +31,8 @@ use Rattle.demands.specs.LawToNewick.{lawful-to-newick}
 use Rattle.demands.specs.LawFromNewick.{TextRefused, lawful-from-newick}
 use Rattle.demands.specs.LawPack.{lawful-pack}
 use Rattle.demands.specs.LawUnpack.{RecordRefused, lawful-unpack}
+use Rattle.demands.specs.LawWriteArchive.{ArchiveRefused, lawful-write-archive}
+use Rattle.demands.specs.LawReadTree.{TreeRefused, lawful-read-tree}
 use Rattle.demands.specs.LawShuffle.{lawful-shuffle}
 use Rattle.demands.specs.LawRelabel.{RelabelRefused, lawful-relabel}
 
@@ -42,6 +47,8 @@ pub data Name : Type 0 where
   Unpack : Name
   Shuffle : Name
   Relabel : Name
+  WriteArchive : Name
+  ReadTree : Name
 
 -- a public call on an input
 pub data Public : Type 0 where
@@ -54,6 +61,8 @@ pub data Public : Type 0 where
   unpacks : List ℕ → Public
   shuffles : List ℕ → Public
   relabels : List ℕ → List ℕ → Public
+  writes-archive : ℕ → List ℕ → Public
+  reads-tree : List ℕ → ℕ → Public
 
 -- a call, its name and its buffers; when it refuses its input, with which number and place; how many elements it writes; and that this is so
 pub record Known : Type 1 where
@@ -80,6 +89,9 @@ the (packs v) = known Pack (pack-call v) one-buffer (VectorRefused v) (recordLen
 the (unpacks s) = known Unpack (unpack-call s) one-buffer (RecordRefused s) (leafCount s) (lawful-unpack s)
 the (shuffles v) = known Shuffle (shuffle-call v) two-buffers (VectorRefused v) (length v) (lawful-shuffle v)
 the (relabels v p) = known Relabel (relabel-call v p) one-buffer (RelabelRefused v p) (length v) (lawful-relabel v p)
+the (writes-archive n xs) =
+    known WriteArchive (write-archive-call n xs) one-buffer (ArchiveRefused n xs) (impliedLength n (length xs / n)) (lawful-write-archive n xs)
+the (reads-tree s r) = known ReadTree (read-tree-call s r) one-buffer (TreeRefused s r) (leafCount s) (lawful-read-tree s r)
 
 -- the buffers that are lent to a call
 abbrev pub Lent : Public → Type 0

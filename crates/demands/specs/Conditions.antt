@@ -9,7 +9,7 @@ use Rattle.rules.specs.Vector.{entry, bound}
 use Rattle.rules.specs.Table.{Row}
 use Rattle.rules.specs.Names.{Placed}
 use Rattle.rules.specs.Newick.{labelsOf}
-use Rattle.rules.specs.Record.{bitsOf, total}
+use Rattle.rules.specs.Record.{Bits, total}
 
 -- 1: "leaf count 0 or above 1,024"
 abbrev pub CountWrong : ℕ → Type 0
@@ -51,9 +51,9 @@ RowWrong n rs number t = (t < length rs) × WrongRow (n + t) (NamedBefore rs t) 
 abbrev pub FirstRow : ℕ → List Row → ℕ → ℕ → Type 0
 FirstRow n rs number t = RowWrong n rs number t × ((j k : ℕ) → j < t → RowWrong n rs k j → ⊥)
 
--- 10: "padding bit set": a bit from L(n) on
-abbrev pub PaddingSet : ℕ → List ℕ → Type 0
-PaddingSet n s = (k : ℕ) × (total n ≤ k) × (getD (bitsOf s) k 0 ≡ 1)
+-- 10: "padding bit set": a bit from L(n) on, in the bits of a record
+abbrev pub PaddingSet : ℕ → Bits → Type 0
+PaddingSet n bs = (k : ℕ) × (total n ≤ k) × (getD bs k 0 ≡ 1)
 
 -- the numbers of the labels of a text, and the place of the first byte of label i
 abbrev pub labelNumbers : List ℕ → List ℕ

@@ -1,6 +1,6 @@
 -- Demand 3: two accepted inputs, in whatever notation, lead to the same vector exactly when they have the same clades, each worked out in its own
 -- notation; and every rooted binary tree with leaves 0 to n-1 is the tree of an accepted vector.
--- Main definition: CladeOf (Input and Leads are in Leads). Main results: led, demand-three, every-tree-has-a-vector.
+-- Main definition: CladeOf (Input and Leads are in Leads). Main results: led, demand-three, archived-as-packed, every-tree-has-a-vector.
 use mathlib.Core.Bool.{Bool}
 use mathlib.Core.List.{List, []}
 use mathlib.Core.Logic.{_⊎_, inl, inr, _↔_}
@@ -14,7 +14,8 @@ use Rattle.rules.specs.Order.{vectorOf}
 use Rattle.rules.specs.Table.{rowsOf, tableFault, tableTree, TableClade}
 use Rattle.rules.specs.Newick.{Text, labelsOf, labelFault}
 use Rattle.rules.specs.Record.{leafCount, entriesOf}
-use Rattle.rules.specs.Answer.{Made, made}
+use Rattle.rules.specs.Archive.{packedAt}
+use Rattle.rules.specs.Answer.{Made, made, refuses}
 use Rattle.rules.specs.CallCheck.{check}
 use Rattle.rules.specs.CallFromTable.{fromTable}
 use Rattle.rules.specs.CallFromNewick.{FromText, too-long, breaks, reads-as, fromLabels}
@@ -22,10 +23,15 @@ use Rattle.written_tables.specs.Flat.{rowsOf-length}
 use Rattle.read_tables.specs.Forest.{rows-make-a-tree}
 use Rattle.read_tables.specs.Clades.{rows-clades}
 use Rattle.record_laws.specs.FromRecord.{only-accepted, unpacked-vector}
+use Rattle.rules.specs.CallUnpack.{unpack}
+use Rattle.archive_laws.specs.AsPacked.{asPacked, thenPadding, read-as-packed}
+use Rattle.archive_laws.specs.Reader as tree
+use Rattle.archive_laws.specs.Reader.{read-vector}
 use Rattle.grammar.specs.Complete.{text-unique}
 use Rattle.grammar.specs.Faults.{no-fault-leaves}
 use Rattle.searching.specs.First.{FirstFound, first-at, nowhere}
 use Rattle.accepting.specs.Answers.{made-not-refuses}
+use Rattle.accepting.specs.Guards.{passed-if}
 use Rattle.accepting.specs.FromTable.{rows-accepted}
 use Rattle.laws.specs.OneToOne.{every-tree, same-clades-same-vector}
 use Rattle.demands.specs.Conditions.{CountWrong, CountRight, Unfit, labelNumbers, labelPlace}
@@ -35,15 +41,18 @@ use Rattle.demands.specs.Cases.{count-cases, equal-cases}
 use Rattle.demands.specs.Law.{Accepted, made-accepted}
 use Rattle.demands.specs.LawFromTable.{TableRefused, table-1, table-2, table-row, lawful-from-table}
 use Rattle.demands.specs.LawFromNewick.{TextRefused, text-1, text-9, labels-fit, lawful-from-newick}
-use Rattle.demands.specs.Leads.{Input, vector, table, text, packed, Leads}
+use Rattle.demands.specs.LawReadTree.{treeEntries}
+use Rattle.demands.specs.Leads.{Input, vector, table, text, packed, archived, Leads}
 use Rattle.demands.specs.DemandTwo.{Vector, accepted-exactly}
 
--- the clades of an input, worked out in its own notation: by the building rule; by the rows alone; by the grammar's brackets; by the bits' entries
+-- the clades of an input, worked out in its own notation: by the building rule; by the rows alone; by the grammar's brackets; by the bits' entries;
+-- and in an archive by the entries in the bits of record r, with the archive's n before them
 abbrev pub CladeOf : Input → (ℕ → Bool) → Type 0
 CladeOf (vector v) c = Clade (treeOf v) c
 CladeOf (table n xs) c = TableClade n (rowsOf xs) c
 CladeOf (text s) c = (t : Tree) × Text s t × Clade t c
 CladeOf (packed s) c = Clade (treeOf (entriesOf (leafCount s) s)) c
+CladeOf (archived s r) c = Clade (treeOf (treeEntries s r)) c
 
 -- an accepted input leads to a vector of the demand, and its clades are those of the vector's tree
 pub record Led (a : Input) (v : List ℕ) : Type 0 where
@@ -120,23 +129,23 @@ led-text s w h =
       );
     })
 
--- a record that is accepted: its entries
+-- a record that is accepted, by itself or in an archive: its entries
+led-entries : (a : Input) (entries v : List ℕ) → entries ≡ v → Vector v → ((c : ℕ → Bool) → CladeOf a c ↔ Clade (treeOf entries) c) → Led a v
+led-entries a entries v e W same = rw (← e) (record { vector-of = rw e W; clades = same })
+
 led-packed : (s w : List ℕ) → Leads (packed s) w → Led (packed s) w
-led-packed s w h =
-    let e = only-accepted s w h .1 in
-    record {
-      vector-of = unpacked-vector s w h;
-      clades = λ c. (
-        λ x. subst (λ (v : List ℕ). Clade (treeOf v) c) e x,
-        λ x. subst (λ (v : List ℕ). Clade (treeOf v) c) (sym e) x,
-      );
-    }
+led-packed s w h = led-entries (packed s) (entriesOf (leafCount s) s) w (only-accepted s w h .1) (unpacked-vector s w h) (λ c. (λ x. x, λ x. x))
+
+led-archived : (s : List ℕ) (r : ℕ) (w : List ℕ) → Leads (archived s r) w → Led (archived s r) w
+led-archived s r w h =
+    led-entries (archived s r) (treeEntries s r) w (tree.only-accepted s r w h .1) (read-vector s r w h .0) (λ c. (λ x. x, λ x. x))
 
 pub led : (a : Input) (v : List ℕ) → Leads a v → Led a v
 led (vector u) v h = led-vector u v h
 led (table n xs) v h = led-table n xs v h
 led (text s) v h = led-text s v h
 led (packed s) v h = led-packed s v h
+led (archived s r) v h = led-archived s r v h
 
 -- two accepted inputs lead to the same vector exactly when they have the same clades
 pub demand-three : (a b : Input) (v w : List ℕ) → Leads a v → Leads b w → (v ≡ w) ↔ ((c : ℕ → Bool) → CladeOf a c ↔ CladeOf b c)
@@ -148,6 +157,22 @@ demand-three a b v w p q =
       λ e. λ c. (λ x. B .clades c .1 (one .0 e c .0 (A .clades c .0 x)), λ x. A .clades c .1 (one .0 e c .1 (B .clades c .0 x))),
       λ s. one .1 (λ c. (λ x. B .clades c .0 (s c .0 (A .clades c .1 x)), λ x. A .clades c .0 (s c .1 (B .clades c .1 x)))),
     )
+
+-- "Demands 2 and 3 read archive records as packed records with that n": the packed record of the fields of record r
+abbrev pub packedRecord : List ℕ → ℕ → List ℕ
+packedRecord s r = asPacked (leafCount s) (packedAt (leafCount s) s r)
+
+-- an accepted tree of an archive leads where this packed record leads, and has its clades
+pub archived-as-packed : (s : List ℕ) (r : ℕ) (w : List ℕ) → Leads (archived s r) w
+    → Leads (packed (packedRecord s r)) w × ((c : ℕ → Bool) → CladeOf (archived s r) c ↔ CladeOf (packed (packedRecord s r)) c)
+unfolding thenPadding
+archived-as-packed s r w h =
+    let p = made-before-padding _ _ (unpack (packedRecord s r)) w (sym (read-as-packed s r (tree.only-accepted s r w h .0 .has-tree)) ∙ h) in
+    (p, demand-three (archived s r) (packed (packedRecord s r)) w w h p .0 refl)
+  where
+    made-before-padding : (set : Bool) (place : ℕ) (m : Made) (w : List ℕ) → thenPadding set place m ≡ made w → m ≡ made w
+    made-before-padding set place (made x) w e = passed-if set 10 place (made x) e .1
+    made-before-padding set place (refuses k p) w e = e
 
 -- "every rooted binary tree with leaves 0 to n-1 .. is the tree of a vector", which is accepted and has an entry for each leaf
 pub every-tree-has-a-vector : (n : ℕ) (t : Tree) → LeavesBelow n t → n ≤ 1024

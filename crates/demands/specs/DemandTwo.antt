@@ -1,19 +1,21 @@
 -- Demand 2: "The tree of a vector is the one the paper's building rule gives; vector, table, packed record and text of a tree are the ones the
 -- rules fix; turned back, each gives the vector it came from."
--- Main definitions: Vector, Writes, Notations. Main results: accepted-exactly, table-back, text-back, record-back, demand-two.
-use mathlib.Core.List.{List, []}
+-- CR 1: "Demands 2 and 3 read archive records as packed records with that n." So of an archive the demand says that its records are those of its vectors.
+-- Main definitions: Vector, Writes, InRun, Notations. Main results: accepted-exactly, table-back, text-back, record-back, archive-back, demand-two.
+use mathlib.Core.List.{List, [], _∷_, _++_, append-nil}
 use mathlib.Core.Logic.{_⊎_, inl, inr, _↔_}
 use mathlib.Core.Option.{none}
-use mathlib.Core.Path.{_≡_, refl, ap, _∙_, subst}
-use Prim.Native.Nat.{ℕ, _≤_}
+use mathlib.Core.Path.{_≡_, refl, sym, ap, _∙_, subst}
+use Prim.Native.Nat.{ℕ, _≤_, _<_}
 use native.Mathlib.Omega.{arith}
-use lib.ListN.{length}
+use lib.ListN.{length, getD}
 use Rattle.rules.specs.declared.Answer.{Answer}
 use Rattle.rules.specs.Tree.{treeOf}
 use Rattle.rules.specs.Order.{vectorOf}
 use Rattle.rules.specs.Table.{tableOf, rowsOf}
 use Rattle.rules.specs.Newick.{textOf, labelsOf, labelFault}
-use Rattle.rules.specs.Record.{recordOf}
+use Rattle.rules.specs.Record.{field, bitsOf, recordOf}
+use Rattle.rules.specs.Archive.{bareRecord, archiveOf, packedAt}
 use Rattle.rules.specs.Shuffle.{renamed, newOf}
 use Rattle.rules.specs.Answer.{done, reads, made}
 use Rattle.rules.specs.CallCheck.{check}
@@ -23,7 +25,15 @@ use Rattle.rules.specs.CallToNewick.{toText}
 use Rattle.rules.specs.CallFromNewick.{FromText, reads-as}
 use Rattle.rules.specs.CallPack.{pack}
 use Rattle.rules.specs.CallUnpack.{unpack}
+use Rattle.rules.specs.CallWriteArchive.{writeArchive}
+use Rattle.rules.specs.CallReadTree.{readTree}
+use Rattle.rules.specs.CallView.{view}
 use Rattle.record_laws.specs.Inverse.{unpack-record}
+use Rattle.archive_laws.specs.Written as written
+use Rattle.archive_laws.specs.Written.{Trees, joined}
+use Rattle.archive_laws.specs.Writer.{Run}
+use Rattle.archive_laws.specs.Again.{written-then-read}
+use Rattle.archive_laws.specs.AsPacked.{asPacked, packed-of-bare}
 use Rattle.grammar.specs.Faults.{leaves-no-fault, leaves-count}
 use Rattle.grammar.specs.Length.{text-length, text-length-most}
 use Rattle.laws.specs.TreeOf.{tree-leaves, vector-again}
@@ -37,7 +47,7 @@ use Rattle.demands.specs.LawVector.{VectorRefused, vector-cases, vector-
 use Rattle.demands.specs.LawCheck.{lawful-check}
 use Rattle.demands.specs.LawFromNewick.{labels-fit}
 use Rattle.demands.specs.Long.{table-long}
-use Rattle.demands.specs.Calls.{Public, to-table, from-table, to-newick, from-newick, packs, unpacks, shuffles, relabels, the, Lent, Kept}
+use Rattle.demands.specs.Calls.{Public, to-table, from-table, to-newick, from-newick, packs, unpacks, shuffles, relabels, writes-archive, reads-tree, the, Lent, Kept}
 use Rattle.demands.specs.DemandOne.{room}
 use Rattle.demands.specs.Relabelled.{Permutation, Relabelled, relabelled, relabel-makes, Shuffled, shuffled, shuffle-makes}
 use Rattle.demands.specs.WrittenTable.{WrittenTable, written-table}
@@ -87,6 +97,37 @@ text-back v W =
 pub record-back : (v : List ℕ) → Vector v → unpack (recordOf v) ≡ made v
 record-back v W = unpack-record v W
 
+-- the vectors of a run, of which number r is v: they go into one archive
+abbrev pub InRun : List ℕ → List (List ℕ) → ℕ → Type 0
+InRun v vs r = Run (length v) vs × (r < length vs) × (getD vs r [] ≡ v)
+
+-- a vector alone
+pub run-of-one : (v : List ℕ) → Vector v → InRun v (v ∷ []) 0
+unfolding Trees
+run-of-one v W = (record { some-leaf = W .valid .some-leaf; few-leaves = W .few; trees = (W .valid, refl, tt); few = omega arith }, omega arith, refl)
+
+-- their archive is written of their entries in one list
+pub makes-archive : (n : ℕ) (vs : List (List ℕ)) → Run n vs → writeArchive n (joined vs) ≡ made (archiveOf n vs)
+makes-archive n vs R = written-then-read n vs R .0
+
+pub makes-archive-of-one : (v : List ℕ) → Vector v → writeArchive (length v) v ≡ made (archiveOf (length v) (v ∷ []))
+unfolding joined
+makes-archive-of-one v W = ap (writeArchive (length v)) (sym (append-nil v)) ∙ makes-archive (length v) (v ∷ []) (run-of-one v W .0)
+
+-- its trees are the vectors, its parts the vectors' records, and with that n before it a part is the packed record
+pub archive-back : (v : List ℕ) (vs : List (List ℕ)) (r : ℕ) → InRun v vs r → readTree (archiveOf (length v) vs) r ≡ made v
+archive-back v vs r I = written-then-read (length v) vs (I .0) .1 .each r (I .1) ∙ ap made (I .2)
+
+part-of-archive : (v : List ℕ) (vs : List (List ℕ)) (r : ℕ) → InRun v vs r → view (archiveOf (length v) vs) r ≡ bareRecord v
+part-of-archive v vs r I = written-then-read (length v) vs (I .0) .1 .part r (I .1) ∙ ap bareRecord (I .2)
+
+part-as-packed : (v : List ℕ) (vs : List (List ℕ)) (r : ℕ) → InRun v vs r → asPacked (length v) (packedAt (length v) (archiveOf (length v) vs) r) ≡ recordOf v
+unfolding packedAt
+part-as-packed v vs r I =
+    ap (λ (b : List ℕ). asPacked (length v) (field 11 (length v) ++ bitsOf b))
+    (written.record-written (length v) vs (I .0 .trees) r (I .1) ∙ ap bareRecord (I .2))
+    ∙ packed-of-bare v
+
 -- where there is room a call is done and says how many elements it wrote; its buffers hold them, and behind them what they held
 abbrev pub Writes : (c : Public) → the c .Written → Type 0
 Writes c x = (old new : Lent c) (a : Answer) → Kept c old a new → the c .call .buffers .count x ≤ room c old
@@ -105,6 +146,10 @@ pub record Notations (v : List ℕ) : Type 0 where
   pub table-turned-back : Writes (from-table (length v) (tableOf v)) v
   pub text-turned-back : Writes (from-newick (textOf (treeOf v))) v
   pub record-turned-back : Writes (unpacks (recordOf v)) v
+  pub archive-written : (vs : List (List ℕ)) → Run (length v) vs → Writes (writes-archive (length v) (joined vs)) (archiveOf (length v) vs)
+  pub archive-part : (vs : List (List ℕ)) (r : ℕ) → InRun v vs r → view (archiveOf (length v) vs) r ≡ bareRecord v
+  pub archive-as-packed : (vs : List (List ℕ)) (r : ℕ) → InRun v vs r → asPacked (length v) (packedAt (length v) (archiveOf (length v) vs) r) ≡ recordOf v
+  pub archive-turned-back : (vs : List (List ℕ)) (r : ℕ) → InRun v vs r → Writes (reads-tree (archiveOf (length v) vs) r) v
   pub tree-turned-back : vectorOf (treeOf v) ≡ v
   pub relabelled-written : (p : List ℕ) → Permutation (length v) p → Writes (relabels v p) (vectorOf (renamed p (treeOf v)))
   pub relabelled-tree : (p : List ℕ) → Permutation (length v) p → Relabelled v p (vectorOf (renamed p (treeOf v)))
@@ -122,6 +167,10 @@ demand-two v W = record {
   table-turned-back = writes (from-table (length v) (tableOf v)) v (table-back v W);
   text-turned-back = writes (from-newick (textOf (treeOf v))) v (text-back v W);
   record-turned-back = writes (unpacks (recordOf v)) v (record-back v W);
+  archive-written = λ vs R. writes (writes-archive (length v) (joined vs)) (archiveOf (length v) vs) (makes-archive (length v) vs R);
+  archive-part = part-of-archive v;
+  archive-as-packed = part-as-packed v;
+  archive-turned-back = λ vs r I. writes (reads-tree (archiveOf (length v) vs) r) v (archive-back v vs r I);
   tree-turned-back = vector-again v (W .valid);
   relabelled-written = λ p P. writes (relabels v p) _ (relabel-makes v p W P);
   relabelled-tree = λ p P. relabelled v p (W .valid) P;

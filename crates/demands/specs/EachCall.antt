@@ -1,6 +1,6 @@
 -- Each public call by itself: its buffers, and for every valid vector an input of the call to which it answers done.
 -- Main definitions: Buffer, bufferOf, Library, KeepsAll, Asked, Try. Main results: no-buffer-missed, asked, asked-done.
-use mathlib.Core.List.{List, []}
+use mathlib.Core.List.{List, [], _∷_}
 use mathlib.Core.Path.{_≡_, refl, ap, ap₂}
 use Prim.Native.Nat.{ℕ}
 use native.Mathlib.Omega.{arith}
@@ -13,11 +13,12 @@ use Rattle.rules.specs.Order.{vectorOf}
 use Rattle.rules.specs.Table.{tableOf}
 use Rattle.rules.specs.Newick.{textOf}
 use Rattle.rules.specs.Record.{recordOf}
+use Rattle.rules.specs.Archive.{archiveOf}
 use Rattle.rules.specs.Shuffle.{renamed, newOf}
 use Rattle.accepting.specs.Answers.{reads-unique}
-use Rattle.demands.specs.Calls.{Name, Check, ToTable, FromTable, ToNewick, FromNewick, Pack, Unpack, Shuffle, Relabel, Public, checks, to-table, from-table, to-newick, from-newick, packs, unpacks, shuffles, relabels, the, Lent, Kept}
+use Rattle.demands.specs.Calls.{Name, Check, ToTable, FromTable, ToNewick, FromNewick, Pack, Unpack, Shuffle, Relabel, WriteArchive, ReadTree, Public, checks, to-table, from-table, to-newick, from-newick, packs, unpacks, shuffles, relabels, writes-archive, reads-tree, the, Lent, Kept}
 use Rattle.demands.specs.Relabelled.{unmoved, unmoved-permutes, relabel-makes, shuffle-makes}
-use Rattle.demands.specs.DemandTwo.{Vector, accepted-exactly, makes-table, makes-text, makes-record, table-back, text-back, record-back, writes}
+use Rattle.demands.specs.DemandTwo.{Vector, accepted-exactly, makes-table, makes-text, makes-record, makes-archive-of-one, table-back, text-back, record-back, run-of-one, archive-back, writes}
 
 -- the buffers by their numbers: check has none, and shuffle two, for new and for the vector
 pub data Buffer : Name → ℕ → Type 0 where
@@ -30,6 +31,8 @@ pub data Buffer : Name → ℕ → Type 0 where
   shuffle-new : Buffer Shuffle 0
   shuffle-out : Buffer Shuffle 1
   relabel-out : Buffer Relabel 0
+  write-archive-out : Buffer WriteArchive 0
+  read-tree-out : Buffer ReadTree 0
 
 -- what buffer j holds
 abbrev pub bufferOf : ℕ → (c : Public) → Lent c → List ℕ
@@ -46,6 +49,8 @@ no-buffer-missed (packs v) a b same = same 0 pack-out
 no-buffer-missed (unpacks s) a b same = same 0 unpack-out
 no-buffer-missed (shuffles v) a b same = ap₂ (λ (x y : List ℕ). (x, y)) (same 0 shuffle-new) (same 1 shuffle-out)
 no-buffer-missed (relabels v p) a b same = same 0 relabel-out
+no-buffer-missed (writes-archive n xs) a b same = same 0 write-archive-out
+no-buffer-missed (reads-tree s r) a b same = same 0 read-tree-out
 
 -- how many elements an answer counts, of what a call makes
 abbrev pub counts : (c : Public) → the c .Written → ℕ
@@ -69,7 +74,7 @@ pub record Asked (k : Name) : Type 0 where
 abbrev ask : (c : Public) (x : the c .Written) → the c .call .Makes (made x) → Asked (the c .name)
 ask c x M = record { input = c; called = refl; gives = x; makes = M }
 
--- the notation of a vector's tree that the call takes; for relabelling every leaf keeps its name
+-- the notation of a vector's tree that the call takes; for relabelling every leaf keeps its name, and an archive has one tree
 abbrev pub asked : (k : Name) (v : List ℕ) → Vector v → Asked k
 asked Check v ok = ask (checks v) tt (accepted-exactly v .1 ok)
 asked ToTable v ok = ask (to-table v) (tableOf v) (makes-table v ok)
@@ -83,6 +88,8 @@ asked Shuffle v ok =
 asked Relabel v ok =
     ask (relabels v (unmoved (length v))) (vectorOf (renamed (unmoved (length v)) (treeOf v)))
     (relabel-makes v (unmoved (length v)) ok (unmoved-permutes (length v)))
+asked WriteArchive v ok = ask (writes-archive (length v) v) (archiveOf (length v) (v ∷ [])) (makes-archive-of-one v ok)
+asked ReadTree v ok = ask (reads-tree (archiveOf (length v) (v ∷ [])) 0) v (archive-back v (v ∷ []) 0 (run-of-one v ok))
 
 -- a vector to try
 abbrev pub Try : Type 0

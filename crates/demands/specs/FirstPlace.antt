@@ -15,7 +15,7 @@ use Rattle.rules.specs.Vector.{entry, bound, fault}
 use Rattle.rules.specs.Building.{member}
 use Rattle.rules.specs.Names.{Placed}
 use Rattle.rules.specs.Newick.{labelFault}
-use Rattle.rules.specs.Record.{bitsOf, total, anySet, padding}
+use Rattle.rules.specs.Record.{Bits, total, anySet, paddingIn}
 use Rattle.rules.specs.Shuffle.{permutationFault}
 use Rattle.basics.specs.Bools.{or-cases, or-left, or-right}
 use Rattle.basics.specs.Names.{label-step, value-step}
@@ -132,12 +132,12 @@ set-any (b ∷ bs) zero e = rw (eq-eqb b 1 e) refl
 set-any (b ∷ bs) (suc k) e = or-right (eqb b 1) (anySet bs) (set-any bs k e)
 
 -- 10: a padding bit is set
-pub padding-found : (n : ℕ) (s : List ℕ) → (anySet (padding n s) ≡ true) ↔ PaddingSet n s
-unfolding padding
-padding-found n s = (
-  λ e. let k = any-set (drop (total n) (bitsOf s)) e in (total n + k .0, omega arith, sym (getD-drop (total n) (bitsOf s) (k .0) 0) ∙ k .1),
+pub padding-found : (n : ℕ) (bs : Bits) → (anySet (paddingIn n bs) ≡ true) ↔ PaddingSet n bs
+unfolding paddingIn
+padding-found n bs = (
+  λ e. let k = any-set (drop (total n) bs) e in (total n + k .0, omega arith, sym (getD-drop (total n) bs (k .0) 0) ∙ k .1),
   λ w.
       let z : total n + (w .0 - total n) ≡ w .0 = omega (arith, w .1) in
-      set-any (drop (total n) (bitsOf s)) (w .0 - total n)
-      (getD-drop (total n) (bitsOf s) (w .0 - total n) 0 ∙ ap (λ (k : ℕ). getD (bitsOf s) k 0) z ∙ w .2),
+      set-any (drop (total n) bs) (w .0 - total n)
+      (getD-drop (total n) bs (w .0 - total n) 0 ∙ ap (λ (k : ℕ). getD bs k 0) z ∙ w .2),
 )

@@ -10,7 +10,7 @@ use lib.Dec.{ltb}
 use lib.ListN.{length}
 use borrow.Author.Tests.{ltb-true, ltb-false}
 use Rattle.rules.specs.declared.Kind.the-variants.{LeafCount, InputLength, Entry, Padding}
-use Rattle.rules.specs.Record.{recordLength, leafCount, entriesOf, padding, anySet}
+use Rattle.rules.specs.Record.{recordLength, leafCount, bitsOf, entriesOf, padding, anySet}
 use Rattle.rules.specs.Answer.{numberOf, made, refuses}
 use Rattle.rules.specs.Promise.{list}
 use Rattle.rules.specs.CallUnpack.{unpack, unpack-call}
@@ -29,11 +29,11 @@ pub data RecordRefused (s : List ℕ) : ℕ → ℕ → Type 0 where
   record-4 : {i : ℕ} → 2 ≤ length s → CountRight (leafCount s) → length s ≡ recordLength (leafCount s)
       → First (Above (entriesOf (leafCount s) s)) i → RecordRefused s 4 i
   record-10 : 2 ≤ length s → CountRight (leafCount s) → length s ≡ recordLength (leafCount s)
-      → WithinBounds (entriesOf (leafCount s) s) → PaddingSet (leafCount s) s → RecordRefused s 10 (length s - 1)
+      → WithinBounds (entriesOf (leafCount s) s) → PaddingSet (leafCount s) (bitsOf s) → RecordRefused s 10 (length s - 1)
 
 -- what is made is settled by these
 settled-unpack : (s : List ℕ) → Settled length 3 (RecordRefused s) (leafCount s) (unpack s)
-unfolding numberOf
+unfolding numberOf padding
 settled-unpack s = record {
   of-input = kinds;
   given = refused-so;
@@ -62,7 +62,7 @@ settled-unpack s = record {
     refused-so k p (record-2 h c l) = wrong-record s (leafCount s) h refl (c .0) (c .1) l
     refused-so k p (record-4 {i} h c l f) = entry-refused s (leafCount s) i (headed h c l) (above-given (entriesOf (leafCount s) s) i f)
     refused-so k p (record-10 h c l w b) =
-        padding-refused s (leafCount s) (headed h c l) (within-given (entriesOf (leafCount s) s) w) (padding-found (leafCount s) s .1 b)
+        padding-refused s (leafCount s) (headed h c l) (within-given (entriesOf (leafCount s) s) w) (padding-found (leafCount s) (bitsOf s) .1 b)
 
     accepted : 2 ≤ length s → CountRight (leafCount s) → length s ≡ recordLength (leafCount s) → WithinBounds (entriesOf (leafCount s) s)
         → anySet (padding (leafCount s) s) ≡ false → Accepted s (leafCount s)
@@ -76,7 +76,7 @@ settled-unpack s = record {
     go false q (inr c) (inl l) a d e = inl (2, recordLength n, record-2 (ltb-false (length s) 2 q) c l)
     go false q (inr c) (inr l) (inl a) d e = inl (4, a .0, record-4 (ltb-false (length s) 2 q) c l (a .1))
     go false q (inr c) (inr l) (inr w) true e =
-        inl (10, length s - 1, record-10 (ltb-false (length s) 2 q) c l w (padding-found (leafCount s) s .0 e))
+        inl (10, length s - 1, record-10 (ltb-false (length s) 2 q) c l w (padding-found (leafCount s) (bitsOf s) .0 e))
     go false q (inr c) (inr l) (inr w) false e =
         inr (entries, record-accepted s (leafCount s) (accepted (ltb-false (length s) 2 q) c l w e), length-entries (leafCount s) s)
 

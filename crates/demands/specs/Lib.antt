@@ -2,7 +2,7 @@
 -- over the promises of the public calls that stand there, never over code; the crate `tie` has the functions under these same promises.
 --
 -- The promise. rules, Promise.Keeps c old a new: the answer a, and what the lent buffers hold afterwards, are those that what the call c makes of
--- its input (rules, Call*) and the room lent give. Calls.Public has the nine calls, each with its input; Lent the buffers lent to each (Shapes);
+-- its input (rules, Call*) and the room lent give. Calls.Public has the eleven calls, each with its input; Lent the buffers lent to each (Shapes);
 -- Kept its promise.
 --
 -- Demand 1. "Every input gets a finished answer;"
@@ -12,8 +12,9 @@
 --     DemandOne.refused-exactly: a call refuses with a number and a place exactly when the condition holds that 01 gives. There is a line for each
 --     number and each kind of input, in 01's order: LawVector.VectorRefused (1, 4), LawRelabel.RelabelRefused (then 2, 11),
 --     LawFromTable.TableRefused (1, 2, rows upward with 5, 6, 7 in each), LawFromNewick.TextRefused (2, 8, 1, 9), LawUnpack.RecordRefused
---     (2, 1, 2, 4, 10); "Of one number, the first place counts": Conditions.First, FirstRow. 3 comes last: room-exactly. No two conditions hold at
---     once: one-refusal. Done: done-exactly, with the count.
+--     (2, 1, 2, 4, 10), LawWriteArchive.ArchiveRefused (1, 21, 2, 4), LawReadTree.TreeRefused (2, 1, 2, 12, 4, 10); "Of one number, the first place
+--     counts": rules First, Conditions.FirstRow. 3 comes last: room-exactly. No two conditions hold at once: one-refusal. Done: done-exactly, with
+--     the count.
 -- "and every lent buffer then holds what it held."
 --     DemandOne.refusal-writes-nothing.
 --
@@ -32,20 +33,38 @@
 --     permutation, the vector is valid and has as many entries, the clades of its tree are the new names of the tree's clades, v(i) < i (Relabelled).
 --
 -- Demand 3. Accepted inputs of any notation "lead to the same vector exactly when they have the same clades";
---     DemandThree.demand-three. Input has the four kinds, Leads says that one is accepted and to which vector it leads, which is the one that
+--     DemandThree.demand-three. Input has the five kinds, Leads says that one is accepted and to which vector it leads, which is the one that
 --     the public call leaves in the buffer (Leads.done-leads, leads-done). CladeOf has its clades, worked out in its own notation: by the
---     building rule, by the rows alone, by the grammar's brackets, by the entries in the bits.
+--     building rule, by the rows alone, by the grammar's brackets, by the entries in the bits, in an archive by those in the bits of record r.
 -- "every rooted binary tree with leaves 0 to n-1 .. is the tree of a vector".
 --     DemandThree.every-tree-has-a-vector, for n up to 1,024: the vector is accepted.
 --
 -- "How tight the statements are". A wrong library breaks the promise where only one call or one buffer is wrong, and only where it is done:
 --     "One that refuses everything": Tight.not-refuse-everything. "One fixed vector for all": not-one-vector; by demand 3 too:
---     TightByThree.not-one-vector-of-tables, not-one-vector-of-texts, not-one-vector-of-records. "One that answers done and writes nothing":
---     not-write-nothing. "One that merges properly once": every-row, not-one-row. "A count of elements not tied to what was written":
+--     TightByThree.not-one-vector-of-tables, not-one-vector-of-texts, not-one-vector-of-records, not-one-vector-of-archives. "One that answers done
+--     and writes nothing": not-write-nothing. "One that merges properly once": every-row, not-one-row. "A count of elements not tied to what was written":
 --     done-is-written, count-is-written, not-one-count. No buffer is left out of these: EachCall.no-buffer-missed.
 --     One library, and only one, keeps the promises: one-library-keeps, no-two-libraries.
 --
--- The other files are on the way there: FirstPlace and FirstWrongRow (the searches of the rules find the first place), Cases (each condition
+-- CR 1, the archive. "a writer into a lent buffer, from n and the vectors' entries in one list, tree after tree (an empty list: no trees)"
+--     DemandTwo.demand-two: archive-written, for every run of vectors, none too; exactly these are taken: archive_laws Writer.written-exactly.
+-- "a reader of tree r"
+--     DemandTwo.demand-two: archive-turned-back; as an equation of the rules: archive-back. An archive whose trees are all accepted is the one that
+--     is written of them: archive_laws Only.only-archive, same-archive.
+-- "a view, the part of the lent archive that is record r, empty where the reader gives 1, 2 or 12"
+--     View.view-is-the-record, view-empty-exactly, beside the reader's promise; one or the other: record-or-empty. What the part of a written archive
+--     holds: DemandTwo.demand-two, archive-part.
+-- "The answer about tree r depends on the header, the archive's length, r, the output's length and record r's bytes only."
+--     Depends.answer-depends: the same answer and the same elements written; output-depends: into one output the whole of it. The view:
+--     part-depends, view-depends.
+-- "Demands 2 and 3 read archive records as packed records with that n."
+--     DemandTwo.demand-two: archive-as-packed. DemandThree: an archive and a number r are the fifth kind of input (archived); archived-as-packed:
+--     it leads where the packed record leads and has its clades. Whether accepted or not: archive_laws AsPacked.read-as-packed.
+-- "Refusals: the reader gives 2 under 4 bytes (place 4), 1, 2 .., 12 .., then 4 and 10 .., then 3; the writer gives 1, 21 .., 2 .., 4 .., 3."
+--     LawReadTree.TreeRefused and LawWriteArchive.ArchiveRefused, in DemandOne.refused-exactly and room-exactly as those of every call. The place of the
+--     writer's 2 is the first multiple of n above the length: LawWriteArchive.next-multiple-first; that of its 4: FirstEntry.first-entry-found.
+--
+-- The other files are on the way there: FirstPlace, FirstEntry and FirstWrongRow (the searches of the rules find the first place), Cases (each condition
 -- holds or not), Law (demand 1 for any call), Law* (when each call refuses, and that it makes what is wanted), Long (how many elements that is),
 -- EachCall (for every vector an input of each call that is done).
 pub mod Conditions
@@ -53,6 +72,7 @@ pub mod FirstPlace
 pub mod FirstWrongRow
 pub mod Cases
 pub mod Law
+pub mod FirstEntry
 pub mod LawVector
 pub mod Long
 pub mod LawCheck
@@ -62,6 +82,8 @@ pub mod LawToNewick
 pub mod LawFromNewick
 pub mod LawPack
 pub mod LawUnpack
+pub mod LawWriteArchive
+pub mod LawReadTree
 pub mod LawShuffle
 pub mod LawRelabel
 pub mod Shapes
@@ -71,6 +93,8 @@ pub mod Relabelled
 pub mod WrittenTable
 pub mod WrittenText
 pub mod DemandTwo
+pub mod View
+pub mod Depends
 pub mod Leads
 pub mod DemandThree
 pub mod EachCall

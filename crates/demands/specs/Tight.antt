@@ -21,6 +21,7 @@ use Rattle.rules.specs.Order.{vectorOf}
 use Rattle.rules.specs.Table.{tableOf}
 use Rattle.rules.specs.Newick.{textOf}
 use Rattle.rules.specs.Record.{recordOf}
+use Rattle.rules.specs.Archive.{archiveOf}
 use Rattle.rules.specs.Shuffle.{renamed, newOf}
 use Rattle.rules.specs.CallCheck.{check}
 use Rattle.accepting.specs.Answers.{done-not-refused}
@@ -29,7 +30,8 @@ use Rattle.demands.specs.Law.{done-made}
 use Rattle.demands.specs.DemandOne.{wanted, done-exactly, every-input-answered, promise-unique}
 use Rattle.demands.specs.Relabelled.{unmoved}
 use Rattle.demands.specs.DemandTwo.{Vector, accepted-exactly, demand-two}
-use Rattle.demands.specs.EachCall.{Buffer, to-table-out, from-table-out, to-newick-out, from-newick-out, pack-out, unpack-out, shuffle-new, shuffle-out, relabel-out, bufferOf, Library, KeepsAll, counts, Try, asks, asks-call, counted, lent, before, after, asked-done}
+use Rattle.demands.specs.EachCall.{Buffer, to-table-out, from-table-out, to-newick-out, from-newick-out, pack-out, unpack-out, shuffle-new, shuffle-out, relabel-out, write-archive-out, read-tree-out}
+use Rattle.demands.specs.EachCall.{bufferOf, Library, KeepsAll, counts, Try, asks, asks-call, counted, lent, before, after, asked-done}
 
 -- the vectors that are tried: the trees (0,(1,2)); and ((0,1),2); and trees of one leaf and of five
 pub first-ok : Vector (0 ∷ 0 ∷ 1 ∷ [])
@@ -79,7 +81,7 @@ record Tried (k : Name) (j : ℕ) : Type 0 where
   other-count : eqb (counted k one-leaf) (counted k five-leaves) ≡ false
 
 tried : {k : Name} {j : ℕ} → Buffer k j → Tried k j
-unfolding tableOf textOf recordOf treeOf vectorOf renamed newOf unmoved
+unfolding tableOf textOf recordOf archiveOf treeOf vectorOf renamed newOf unmoved
 tried to-table-out = record { same-count = refl; same-before = refl; place = 0; differs = refl; changes = refl; other-count = refl }
 tried from-table-out = record { same-count = refl; same-before = refl; place = 2; differs = refl; changes = refl; other-count = refl }
 tried to-newick-out = record { same-count = refl; same-before = refl; place = 1; differs = refl; changes = refl; other-count = refl }
@@ -89,6 +91,8 @@ tried unpack-out = record { same-count = refl; same-before = refl; place = 2; di
 tried shuffle-new = record { same-count = refl; same-before = refl; place = 1; differs = refl; changes = refl; other-count = refl }
 tried shuffle-out = record { same-count = refl; same-before = refl; place = 2; differs = refl; changes = refl; other-count = refl }
 tried relabel-out = record { same-count = refl; same-before = refl; place = 2; differs = refl; changes = refl; other-count = refl }
+tried write-archive-out = record { same-count = refl; same-before = refl; place = 4; differs = refl; changes = refl; other-count = refl }
+tried read-tree-out = record { same-count = refl; same-before = refl; place = 2; differs = refl; changes = refl; other-count = refl }
 
 module _ (library : Library) (k : Name) (j : ℕ) (B : Buffer k j) where
   -- "One fixed vector for all": in no buffer of any call may one fixed list stand wherever it is done, not even one for each count

@@ -1,8 +1,8 @@
 -- Demand 3 of what a library gives, and so against a library that gives one fixed vector.
 -- Main definitions: got, OnlyGives. Main results: three-of-what-is-given; not-one-vector-of-tables, not-one-vector-of-texts,
--- not-one-vector-of-records.
+-- not-one-vector-of-records, not-one-vector-of-archives.
 use mathlib.Core.Bool.{Bool, _||_, true≢false}
-use mathlib.Core.List.{List}
+use mathlib.Core.List.{List, [], _∷_}
 use mathlib.Core.Logic.{inl, inr, _↔_}
 use mathlib.Core.Path.{_≡_, refl, sym, ap, _∙_, subst}
 use Prim.Native.Nat.{ℕ}
@@ -17,10 +17,11 @@ use Rattle.rules.specs.Tree.{Clade, has, treeOf}
 use Rattle.rules.specs.Table.{tableOf}
 use Rattle.rules.specs.Newick.{textOf}
 use Rattle.rules.specs.Record.{recordOf}
+use Rattle.rules.specs.Archive.{archiveOf}
 use Rattle.accepting.specs.Answers.{reads-unique}
 use Rattle.demands.specs.Calls.{Lent}
-use Rattle.demands.specs.DemandTwo.{Vector, table-back, text-back, record-back}
-use Rattle.demands.specs.Leads.{Input, vector, table, text, packed, Leads, callOf, Fits, leads-done}
+use Rattle.demands.specs.DemandTwo.{Vector, table-back, text-back, record-back, run-of-one, archive-back}
+use Rattle.demands.specs.Leads.{Input, vector, table, text, packed, archived, Leads, callOf, Fits, leads-done}
 use Rattle.demands.specs.DemandThree.{CladeOf, led, demand-three}
 use Rattle.demands.specs.EachCall.{Library, KeepsAll, Try}
 use Rattle.demands.specs.Tight.{first, second, done-is-written}
@@ -31,6 +32,7 @@ got (vector v) after count = v
 got (table n xs) after count = take count after
 got (text s) after count = take count after
 got (packed s) after count = take count after
+got (archived s r) after count = take count after
 
 elements : (x old after : List ℕ) (count : ℕ) → after ≡ over x old → count ≡ length x → x ≡ take count after
 elements x old after count h e = sym (ap (take count) h ∙ take-at x (drop (length x) old) count (sym e))
@@ -45,6 +47,8 @@ module _ (library : Library) (keeps : KeepsAll library) where
       let d = done-is-written library keeps (callOf (text s)) old count e in subst (Leads (text s)) (elements (d .0) old _ count (d .2) (d .3)) (d .1)
   given-leads (packed s) old count e =
       let d = done-is-written library keeps (callOf (packed s)) old count e in subst (Leads (packed s)) (elements (d .0) old _ count (d .2) (d .3)) (d .1)
+  given-leads (archived s r) old count e =
+      let d = done-is-written library keeps (callOf (archived s r)) old count e in subst (Leads (archived s r)) (elements (d .0) old _ count (d .2) (d .3)) (d .1)
 
   -- two inputs to which a library answers done are given the same vector exactly when they have the same clades
   pub three-of-what-is-given : (a b : Input) (old : Lent (callOf a)) (old′ : Lent (callOf b)) (m n : ℕ)
@@ -79,6 +83,7 @@ roomy (vector v) w = (tt, tt)
 roomy (table n xs) w = (w, omega arith)
 roomy (text s) w = (w, omega arith)
 roomy (packed s) w = (w, omega arith)
+roomy (archived s r) w = (w, omega arith)
 
 -- "One fixed vector for all: demands 2 and 3": in no notation may one vector be given for all, since inputs with other clades are accepted
 not-one-in : (library : Library) (notation : List ℕ → Input) → ((v : List ℕ) → Vector v → Leads (notation v) v) → (w : List ℕ)
@@ -109,3 +114,7 @@ not-one-vector-of-texts library = not-one-in library (λ v. text (textOf (treeOf
 
 pub not-one-vector-of-records : (library : Library) (w : List ℕ) → OnlyGives library (λ v. packed (recordOf v)) w → KeepsAll library → ⊥
 not-one-vector-of-records library = not-one-in library (λ v. packed (recordOf v)) record-back
+
+pub not-one-vector-of-archives : (library : Library) (w : List ℕ) → OnlyGives library (λ v. archived (archiveOf (length v) (v ∷ [])) 0) w → KeepsAll library → ⊥
+not-one-vector-of-archives library =
+    not-one-in library (λ v. archived (archiveOf (length v) (v ∷ [])) 0) (λ v W. archive-back v (v ∷ []) 0 (run-of-one v W))

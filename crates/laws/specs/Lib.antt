@@ -22,6 +22,7 @@
 -- "The result is the permutation new and the vector of the relabelled tree, which has v(i) < i for all i >= 1"
 --     shuffle_laws Taken.new-permutes, Shuffled.shuffled-ordered; "leaf x becoming p(x)": Renaming.renamed-below, renamed-clades.
 -- What a shortened vector means (a later request): building Shortened.valid-take, Shortened.shortened-tree, shortened-clades.
+-- The archive (a later request): archive_laws, whose Lib goes through its sentences.
 -- When a call refuses and what comes back: accepting.
 pub mod TreeOf
 pub mod FactOne

@@ -11,14 +11,13 @@ use lib.Dec.{ltb}
 use lib.ListN.{length}
 use borrow.Author.Tests.{ltb-false, lt-ltb, le-ltb}
 use Rattle.rules.specs.Vector.{fault, Vector}
-use Rattle.rules.specs.Record.{leafCount, recordLength, entryIn, bitsOf, entriesOf, anySet, padding}
+use Rattle.rules.specs.Record.{leafCount, recordLength, bitsOf, entriesOf, anySet, padding}
 use Rattle.rules.specs.Answer.{made, refuses}
 use Rattle.rules.specs.Guards.{refuseCount, refuseLength}
 use Rattle.rules.specs.CallUnpack.{fromEntries, unpack}
-use Rattle.basics.specs.Listed.{length-listed}
 use Rattle.basics.specs.Fault.{no-fault-valid}
-use Rattle.accepting.specs.Answers.{made-same}
-use Rattle.accepting.specs.Guards.{some-leaves, wrong-length, right-length, refuse-if, pass-if, refuse-at, pass-at, passed-count, passed-length, passed-if, passed-at}
+use Rattle.accepting.specs.Guards.{some-leaves, wrong-length, right-length, refuse-if, passed-count, passed-length, passed-if}
+use Rattle.record_laws.specs.FromBits.{entry-in-bits, padding-in-bits, bits-accepted, bits-made, length-entries-in}
 
 -- "2 (under 2 bytes, place 2)"
 pub under-two-bytes : (s : List ℕ) → length s < 2 → unpack s ≡ refuses 2 2
@@ -44,20 +43,21 @@ pub record Headed (s : List ℕ) (n : ℕ) : Type 0 where
   pub few : n ≤ 1024
   pub whole : length s ≡ recordLength n
 
-headed : (s : List ℕ) (n : ℕ) → Headed s n → unpack s ≡ fromEntries n s
+-- its bits are looked at next
+pub headed : (s : List ℕ) (n : ℕ) → Headed s n → unpack s ≡ fromEntries n s
 headed s n H =
     counted s n (H .two-bytes) (H .count) ∙ some-leaves n _ (H .some-leaf) (H .few) ∙ right-length (recordLength n) (length s) _ (H .whole)
 
 -- 4
 pub entry-refused : (s : List ℕ) (n i : ℕ) → Headed s n → fault 0 (entriesOf n s) ≡ some i → unpack s ≡ refuses 4 i
-unfolding fromEntries
-entry-refused s n i H e = headed s n H ∙ refuse-at 4 i (fault 0 (entriesOf n s)) _ e
+unfolding fromEntries entriesOf
+entry-refused s n i H e = headed s n H ∙ entry-in-bits n (length s - 1) (bitsOf s) i e
 
 -- 10: "last byte's number"
 pub padding-refused : (s : List ℕ) (n : ℕ) → Headed s n → fault 0 (entriesOf n s) ≡ none → anySet (padding n s) ≡ true
     → unpack s ≡ refuses 10 (length s - 1)
-unfolding fromEntries
-padding-refused s n H e b = headed s n H ∙ pass-at 4 (fault 0 (entriesOf n s)) _ e ∙ refuse-if (anySet (padding n s)) 10 (length s - 1) _ b
+unfolding fromEntries entriesOf padding
+padding-refused s n H e b = headed s n H ∙ padding-in-bits n (length s - 1) (bitsOf s) e b
 
 -- a record of n leaves in which nothing is wrong
 pub record Accepted (s : List ℕ) (n : ℕ) : Type 0 where
@@ -67,21 +67,17 @@ pub record Accepted (s : List ℕ) (n : ℕ) : Type 0 where
 
 -- it makes its entries,
 pub record-accepted : (s : List ℕ) (n : ℕ) → Accepted s n → unpack s ≡ made (entriesOf n s)
-unfolding fromEntries
-record-accepted s n A =
-    headed s n (A .headed)
-    ∙ pass-at 4 (fault 0 (entriesOf n s)) _ (A .within)
-    ∙ pass-if (anySet (padding n s)) 10 (length s - 1) _ (A .unset)
+unfolding fromEntries entriesOf padding
+record-accepted s n A = headed s n (A .headed) ∙ bits-accepted n (length s - 1) (bitsOf s) (A .within) (A .unset)
 
 -- and no other makes any
 pub only-accepted : (s v : List ℕ) → unpack s ≡ made v → Accepted s (leafCount s) × (entriesOf (leafCount s) s ≡ v)
-unfolding unpack fromEntries
+unfolding unpack fromEntries entriesOf padding
 only-accepted s v e =
     let long = passed-if (ltb (length s) 2) 2 2 _ e in
     let leaves = passed-count n _ (long .1) in
     let size = passed-length (recordLength n) (length s) _ (leaves .2) in
-    let bounded = passed-at 4 (fault 0 (entriesOf n s)) _ (size .1) in
-    let rest = passed-if (anySet (padding n s)) 10 (length s - 1) _ (bounded .1) in
+    let inside = bits-made n (length s - 1) (bitsOf s) v (size .1) in
     let H : Headed s n = record {
       two-bytes = ltb-false (length s) 2 (long .0);
       count = refl;
@@ -89,14 +85,14 @@ only-accepted s v e =
       few = leaves .1;
       whole = size .0;
     } in
-    (record { headed = H; within = bounded .0; unset = rest .0 }, made-same (rest .1))
+    (record { headed = H; within = inside .0; unset = inside .1 }, inside .2)
   where
     n : ℕ
     n = leafCount s
 
 pub length-entries : (n : ℕ) (s : List ℕ) → length (entriesOf n s) ≡ n
 unfolding entriesOf
-length-entries n s = length-listed n (entryIn (bitsOf s))
+length-entries n s = length-entries-in n (bitsOf s)
 
 -- what is made is a vector that every call accepts
 pub unpacked-vector : (s v : List ℕ) → unpack s ≡ made v → Vector v

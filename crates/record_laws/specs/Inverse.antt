@@ -24,12 +24,12 @@ use Rattle.record_laws.specs.FromRecord.{Accepted, record-accepted, only
 use Rattle.record_laws.specs.Fields.{Fit, are-fields, length-fields, entries-of-fields, fields-of-entries}
 
 -- bits of which none is set are zero bits
-zeros-unset : (k : ℕ) → anySet (replicate k 0) ≡ false
+pub zeros-unset : (k : ℕ) → anySet (replicate k 0) ≡ false
 unfolding anySet
 zeros-unset zero = refl
 zeros-unset (suc k) = zeros-unset k
 
-unset-zeros : (bs : Bits) → AreBits bs → anySet bs ≡ false → bs ≡ replicate (length bs) 0
+pub unset-zeros : (bs : Bits) → AreBits bs → anySet bs ≡ false → bs ≡ replicate (length bs) 0
 unfolding AreBits anySet
 unset-zeros [] h e = refl
 unset-zeros (zero ∷ bs) h e = ap (_∷_ 0) (unset-zeros bs (h .1) e)

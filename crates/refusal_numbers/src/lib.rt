@@ -19,5 +19,7 @@ pub fn number_of(kind: Kind) -> u64
         Kind::Label => 9,
         Kind::Padding => 10,
         Kind::Permutation => 11,
+        Kind::TreeNumber => 12,
+        Kind::TreeCount => 21,
     }
 }

@@ -3,7 +3,7 @@
 use mathlib.Core.List.{List}
 use Prim.Native.Nat.{ℕ}
 use Rattle.rules.specs.declared.Kind.{Kind}
-use Rattle.rules.specs.declared.Kind.the-variants.{LeafCount, InputLength, Room, Entry, Parent, Child, NamedBefore, Grammar, Label, Padding, Permutation}
+use Rattle.rules.specs.declared.Kind.the-variants.{LeafCount, InputLength, Room, Entry, Parent, Child, NamedBefore, Grammar, Label, Padding, Permutation, TreeNumber, TreeCount}
 use Rattle.rules.specs.declared.Answer.{Answer}
 use Rattle.rules.specs.declared.Answer.the-variants.{Done, Refused}
 
@@ -25,6 +25,8 @@ numberOf Grammar = 8
 numberOf Label = 9
 numberOf Padding = 10
 numberOf Permutation = 11
+numberOf TreeNumber = 12
+numberOf TreeCount = 21
 
 -- the outcome that an answer stands for
 unfoldable pub reads : Answer → Outcome

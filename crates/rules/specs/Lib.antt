@@ -19,8 +19,13 @@ pub mod CallToNewick
 pub mod CallFromNewick
 pub mod CallPack
 pub mod CallUnpack
+pub mod Archive
+pub mod CallWriteArchive
+pub mod CallReadTree
+pub mod CallView
 pub mod CallShuffle
 pub mod CallRelabel
 pub mod Listing
 pub mod Samples
+pub mod ArchiveSamples
 pub mod TextSamples

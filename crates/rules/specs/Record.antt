@@ -1,5 +1,5 @@
 -- The packed record: bits in a row, most significant first, filled up to whole bytes.
--- Main definitions: bitsNeeded, width, total, recordLength, field, number, recordOf, entriesOf.
+-- Main definitions: bitsNeeded, width, total, recordLength, field, number, recordOf, entriesIn, entriesOf.
 use mathlib.Core.Bool.{Bool, false, _||_}
 use mathlib.Core.List.{List, [], _∷_, _++_}
 use Prim.Native.Nat.{ℕ, zero, suc, _+_, _*_, _/_, _%_, _^_}
@@ -85,17 +85,27 @@ unfoldable pub entryIn : Bits → ℕ → ℕ
 unfolding number width total
 entryIn bs i = number (take (width i) (drop (total i) bs))
 
+-- the n entries in the bits of a record
+unfoldable pub entriesIn : ℕ → Bits → List ℕ
+unfolding listed entryIn
+entriesIn n bs = listed n (entryIn bs)
+
 -- the n entries of a record
 unfoldable pub entriesOf : ℕ → List ℕ → List ℕ
-unfolding listed entryIn bitsOf
-entriesOf n s = listed n (entryIn (bitsOf s))
+unfolding entriesIn bitsOf
+entriesOf n s = entriesIn n (bitsOf s)
 
 -- some bit is set
 unfoldable pub anySet : Bits → Bool
 anySet [] = false
 anySet (b ∷ bs) = eqb b 1 || anySet bs
 
+-- the bits behind the fields of n leaves, in the bits of a record
+unfoldable pub paddingIn : ℕ → Bits → Bits
+unfolding total
+paddingIn n bs = drop (total n) bs
+
 -- the bits of a record of n leaves behind its fields
 unfoldable pub padding : ℕ → List ℕ → Bits
-unfolding bitsOf total
-padding n s = drop (total n) (bitsOf s)
+unfolding bitsOf paddingIn
+padding n s = paddingIn n (bitsOf s)

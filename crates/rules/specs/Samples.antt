@@ -70,7 +70,7 @@ data Each : List Marked → Type 0 where
 abbrev Line : Type 0 → Type 0
 Line W = Making W × Making W
 
-abbrev Hold : {A : Type 0} → List (A × A) → Type 0
+abbrev pub Hold : {A : Type 0} → List (A × A) → Type 0
 Hold {A} ls = map (λ (l : A × A). l .0) ls ≡ map (λ (l : A × A). l .1) ls
 
 -- the marked tables and relabelling; the table is read back too, and the rows are in the sender's order

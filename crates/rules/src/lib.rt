@@ -1,4 +1,5 @@
-// The answer of every public call, by value. specs/Answer.antt gives each case the paper's number and values.
+// What the public calls hand back, by value: the answer, of which specs/Answer.antt gives each case the paper's number and values, and the
+// part of a lent list that is viewed.
 
 /// Why an input is refused: one case for each number of the refusal table, in its order.
 pub enum Kind {
@@ -13,6 +14,8 @@ pub enum Kind {
     Label,
     Padding,
     Permutation,
+    TreeNumber,
+    TreeCount,
 }
 
 /// A refusal: its kind and its place.
@@ -25,4 +28,10 @@ pub struct Refusal {
 pub enum Answer {
     Done(usize),
     Refused(Refusal),
+}
+
+/// A part of a lent list: the number of its first element, and how many it has.
+pub struct Part {
+    pub start: usize,
+    pub length: usize,
 }

@@ -36,6 +36,12 @@ enum-told-10 c = search needs
 enum-told-11 : tie.Need-enum-told-11
 enum-told-11 c = search needs
 
+enum-told-12 : tie.Need-enum-told-12
+enum-told-12 c = search needs
+
+enum-told-13 : tie.Need-enum-told-13
+enum-told-13 c = search needs
+
 returns : tie.Need-returns
 unfolding answers.numberOf
 returns c = rw (c .enum-told .given .1)
@@ -80,6 +86,14 @@ returns-11 : tie.Need-returns-11
 unfolding answers.numberOf
 returns-11 c = rw (c .enum-told11 .given .1)
 
+returns-12 : tie.Need-returns-12
+unfolding answers.numberOf
+returns-12 c = rw (c .enum-told12 .given .1)
+
+returns-13 : tie.Need-returns-13
+unfolding answers.numberOf
+returns-13 c = rw (c .enum-told13 .given .1)
+
 pub number-of-spec : {M : Type 1} → statement M
 number-of-spec =
     tie.close
@@ -95,6 +109,8 @@ number-of-spec =
     enum-told-9
     enum-told-10
     enum-told-11
+    enum-told-12
+    enum-told-13
     returns
     returns-2
     returns-3
@@ -105,4 +121,6 @@ number-of-spec =
     returns-8
     returns-9
     returns-10
-    returns-11)
+    returns-11
+    returns-12
+    returns-13)

@@ -1,0 +1,1 @@
+// The laws of the archive. No code: specs/ has them.
