@@ -8,6 +8,11 @@
  *   text     Newick, as "((0,1),2);", without lengths, names or blanks
  *   record   n in 11 bits and the vector's entries in as many bits as their bounds need, filled up to whole bytes
  *
+ * Trees of one n go into an archive:
+ *
+ *   archive  n in 11 bits, the number of trees in 21 bits, and the records one after another, each without its n and filled
+ *            up to whole bytes; trees are counted from 0
+ *
  * The library is x86-64 code with no state and no heap. Every call returns, for every input. Calls may run at the same
  * time on buffers of their own.
  *
@@ -17,8 +22,9 @@
  * two lists that are lent to one call overlap, inputs and outputs alike.
  *
  * Stack. In bytes, at the deepest, as measured over trees of 1,024 leaves (bench/run --stack): check 0, to_table 12,488,
- * from_table 17,800, to_newick 55,400, from_newick 53,368, pack 3,424, unpack 4,240, shuffle 28,184, relabel 22,024. Have 128 KiB
- * free: nothing in the library looks whether there is enough.
+ * from_table 17,800, to_newick 55,400, from_newick 53,368, pack 2,128, unpack 4,304, shuffle 28,184, relabel 22,024,
+ * write_archive 2,160, read_tree 4,336, view 2,096, however many trees there are. Have 128 KiB free: nothing in the library
+ * looks whether there is enough.
  *
  * Answers. The last parameter points to two numbers that every call sets:
  *
@@ -42,6 +48,8 @@
  *    9  a label is not below n, or was used before              its first byte
  *   10  a padding bit is set                                    the last byte's number
  *   11  a permutation's value is not below n, or used before    its index
+ *   12  an archive has no tree of that number                   the number
+ *   21  more trees than an archive counts                       2097151
  *
  * Each call below says which refusals it gives, in the order in which they are looked for.
  */
@@ -100,6 +108,29 @@ void blathersike_shuffle(const uint16_t *v, size_t v_length, uint16_t *new_label
  */
 void blathersike_relabel(const uint16_t *v, size_t v_length, const uint16_t *p, size_t p_length, uint16_t *out,
                          size_t out_length, uint64_t answer[2]);
+
+/*
+ * Vectors of `leaves` entries each, one after another in one list, to an archive: 4 bytes and the records, of which one has at
+ * most 1,279. An empty list makes an archive of no trees. A record of 1 or 2 leaves has no bytes. Refusals: 1, 21 (more than
+ * 2,097,151 times n entries), 2 (no whole number of vectors; place: the next multiple of n), 4 (place: the index in the list),
+ * 3.
+ */
+void blathersike_write_archive(size_t leaves, const uint16_t *entries, size_t entries_length, uint8_t *out,
+                               size_t out_length, uint64_t answer[2]);
+
+/*
+ * A tree of an archive to its vector: n numbers. Only the archive's first four bytes, its length and the record of that tree
+ * count. Refusals: 2 (under 4 bytes, place 4), 1, 2 (not the length that n and the number of trees imply; place: that length),
+ * 12, 4 (place: the entry of the tree's vector), 10 (place: the last byte of the tree's record, counted from its first), 3.
+ */
+void blathersike_read_tree(const uint8_t *archive, size_t archive_length, size_t tree, uint16_t *out, size_t out_length,
+                           uint64_t answer[2]);
+
+/*
+ * The part of an archive that is the record of a tree: part[0] is the number of its first byte, part[1] how many it has. Both
+ * are 0 where blathersike_read_tree refuses with 1, 2 or 12. It is no answer: whether the record is a vector's is not looked at.
+ */
+void blathersike_view(const uint8_t *archive, size_t archive_length, size_t tree, uint64_t part[2]);
 
 #ifdef __cplusplus
 }

@@ -1,10 +1,11 @@
 /*
- * Calls all nine functions of the C interface on samples of the rules, and one refusal of each, with the buffers compared
- * whole. Prints what differs; exit status 1 where anything does.
+ * Calls all twelve functions of the C interface on samples of the rules, and one refusal of each at least, with the buffers
+ * compared whole. Prints what differs; exit status 1 where anything does.
  */
 #include "../include/blathersike.h"
 
 #include <stdio.h>
+#include <stdlib.h>
 #include <string.h>
 
 static int failed;
@@ -135,6 +136,104 @@ static void labels(void)
     holds("relabel", out, relabelled, sizeof relabelled);
 }
 
+/* 0,0,1,4 and 0,0,2,1; no tree; three trees of one leaf, and as many as there can be. */
+static const uint8_t two_trees[6] = {0x00, 0x80, 0x00, 0x02, 0x60, 0x88}, no_trees[4] = {0x00, 0x80, 0x00, 0x00};
+static const uint8_t three_leaves[4] = {0x00, 0x20, 0x00, 0x03}, most_leaves[4] = {0x00, 0x3F, 0xFF, 0xFF};
+
+static void archives_written(void)
+{
+    uint64_t a[2];
+    uint16_t entries[8] = {0, 0, 1, 4, 0, 0, 2, 1};
+    uint8_t out[8], old[8], full[8] = {0x00, 0x80, 0x00, 0x02, 0x60, 0x88, '?', '?'};
+    memset(old, '?', 8);
+    memset(out, '?', 8);
+    blathersike_write_archive(4, entries, 8, out, 5, a);
+    expect("write_archive, short", a, 3, 6);
+    blathersike_write_archive(4, entries, 7, out, 8, a);
+    expect("write_archive, no whole vectors", a, 2, 8);
+    blathersike_write_archive(SIZE_MAX, entries, 8, out, 8, a);
+    expect("write_archive, many leaves", a, 1, 0);
+    entries[7] = 5;
+    blathersike_write_archive(4, entries, 8, out, 8, a);
+    expect("write_archive, entry", a, 4, 7);
+    holds("write_archive, refused", out, old, 8);
+    entries[7] = 1;
+    blathersike_write_archive(4, entries, 8, out, 8, a);
+    expect("write_archive", a, 0, 6);
+    holds("write_archive", out, full, 8);
+    blathersike_write_archive(4, entries, 0, out, 8, a);
+    expect("write_archive, no trees", a, 0, 4);
+    holds("write_archive, no trees", out, no_trees, 4);
+    holds("write_archive, no trees", out + 4, full + 4, 4);
+}
+
+/* As many trees of one leaf as an archive counts, and one more. */
+static void archives_full(void)
+{
+    uint64_t a[2];
+    uint8_t out[4] = {9, 9, 9, 9}, old[4] = {9, 9, 9, 9};
+    size_t most = 2097151;
+    uint16_t *zeros = calloc(most + 1, sizeof *zeros);
+    if (!zeros) {
+        puts("write_archive, full: no memory");
+        failed = 1;
+        return;
+    }
+    blathersike_write_archive(1, zeros, most + 1, out, 4, a);
+    expect("write_archive, too many trees", a, 21, most);
+    holds("write_archive, too many trees", out, old, 4);
+    blathersike_write_archive(1, zeros, most, out, 4, a);
+    expect("write_archive, full", a, 0, 4);
+    holds("write_archive, full", out, most_leaves, 4);
+    free(zeros);
+}
+
+static void trees_read(void)
+{
+    uint64_t a[2];
+    uint16_t out[5], none[5], first[5] = {0, 0, 1, 4, 7777}, second[5] = {0, 0, 2, 1, 7777};
+    static const uint8_t padded_tree[6] = {0x00, 0x80, 0x00, 0x02, 0x61, 0x88};
+    fill(none, 5);
+    fill(out, 5);
+    blathersike_read_tree(two_trees, 6, 2, out, 5, a);
+    expect("read_tree, no such tree", a, 12, 2);
+    blathersike_read_tree(two_trees, 6, SIZE_MAX, out, 5, a);
+    expect("read_tree, no such tree", a, 12, UINT64_MAX);
+    blathersike_read_tree(two_trees, 5, 0, out, 5, a);
+    expect("read_tree, cut", a, 2, 6);
+    blathersike_read_tree(two_trees, 3, 0, out, 5, a);
+    expect("read_tree, no header", a, 2, 4);
+    blathersike_read_tree(padded_tree, 6, 0, out, 5, a);
+    expect("read_tree, padding", a, 10, 0);
+    blathersike_read_tree(two_trees, 6, 0, out, 3, a);
+    expect("read_tree, short", a, 3, 4);
+    holds("read_tree, refused", out, none, sizeof none);
+    blathersike_read_tree(two_trees, 6, 0, out, 5, a);
+    expect("read_tree, first", a, 0, 4);
+    holds("read_tree, first", out, first, sizeof first);
+    blathersike_read_tree(padded_tree, 6, 1, out, 5, a);
+    expect("read_tree, second", a, 0, 4);
+    holds("read_tree, second", out, second, sizeof second);
+    fill(out, 5);
+    blathersike_read_tree(most_leaves, 4, 2097150, out, 5, a);
+    expect("read_tree, last of all", a, 0, 1);
+    none[0] = 0;
+    holds("read_tree, last of all", out, none, sizeof none);
+}
+
+static void views(void)
+{
+    uint64_t part[2] = {7, 7};
+    blathersike_view(two_trees, 6, 1, part);
+    expect("view", part, 5, 1);
+    blathersike_view(two_trees, 6, 2, part);
+    expect("view, no such tree", part, 0, 0);
+    blathersike_view(three_leaves, 4, 2, part);
+    expect("view, no bytes", part, 4, 0);
+    blathersike_view(two_trees, 5, 0, part);
+    expect("view, cut", part, 0, 0);
+}
+
 int main(void)
 {
     uint64_t a[2];
@@ -146,6 +245,10 @@ int main(void)
     texts();
     records();
     labels();
+    archives_written();
+    archives_full();
+    trees_read();
+    views();
     puts(failed ? "the C interface: FAILED" : "the C interface: as the rules say");
     return failed;
 }

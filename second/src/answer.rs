@@ -6,7 +6,7 @@
 
 use std::fmt;
 
-/// The numbers of 01's table of refusals.
+/// The numbers of 01's table of refusals, and of those that 02 adds.
 pub const LEAF_COUNT: u8 = 1;
 pub const LENGTH: u8 = 2;
 pub const ROOM: u8 = 3;
@@ -18,6 +18,8 @@ pub const GRAMMAR: u8 = 8;
 pub const LABEL: u8 = 9;
 pub const PADDING: u8 = 10;
 pub const PERMUTATION: u8 = 11;
+pub const TREE: u8 = 12;
+pub const TREES: u8 = 21;
 
 #[derive(Clone, Copy, Debug, PartialEq, Eq)]
 pub struct Refusal {

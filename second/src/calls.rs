@@ -1,11 +1,15 @@
-//! The nine public calls. Each makes its elements or a refusal, and then looks at
-//! the room it was lent.
+//! The public calls. Each makes its elements or a refusal, and then looks at the
+//! room it was lent; the view alone makes nothing.
 //!
 //! 01: "check a vector; vector to merge table; merge table to vector; vector to
 //! Newick; Newick to vector; pack; unpack; Queue Shuffle with relabelling by a
 //! given permutation (two calls, so nine public calls)".
+//!
+//! 02, CR 1: "a writer into a lent buffer, from n and the vectors' entries in one
+//! list [..]; a reader of tree r; and a view".
 
 use crate::answer::{give, room_for, write, Answer, Refusal};
+use crate::archive::{self, Part};
 use crate::building;
 use crate::tree::Tree;
 use crate::{newick, order, record, shuffle, table, vector};
@@ -68,4 +72,18 @@ fn relabelled(v: &[u16], p: &[u16]) -> Result<Vec<u16>, Refusal> {
     vector::accepted(v)?;
     shuffle::is_permutation(p, v.len())?;
     Ok(order::vector(&Tree::of_vector(v).renamed(p)))
+}
+
+pub fn write_archive(leaves: u64, entries: &[u16], out: &mut [u8]) -> Answer {
+    give(archive::write(leaves, entries), out)
+}
+
+pub fn read_tree(archive: &[u8], tree: u64, out: &mut [u16]) -> Answer {
+    give(archive::read(archive, tree), out)
+}
+
+/// "the part of the lent archive that is record r, empty where the reader gives 1,
+/// 2 or 12": then it starts at 0. It is lent no room and looks into no record.
+pub fn view(archive: &[u8], tree: u64) -> Part {
+    archive::part(archive, tree).unwrap_or_default()
 }

@@ -27,7 +27,16 @@ pub fn lines() -> Vec<u8> {
     for n in 1..=6 {
         for v in vectors(n) {
             there_and_back(&mut lines, &v);
+            archived(&mut lines, &v);
+            lines.shuffle(&v);
         }
     }
     lines.into_bytes()
+}
+
+/// The archive of this one tree.
+fn archived(lines: &mut Lines, v: &[u16]) {
+    let archive = lines.write_archive(v.len() as u64, v);
+    lines.read_tree(&archive, 0);
+    lines.view(&archive, 0);
 }

@@ -9,10 +9,11 @@ use std::path::Path;
 
 /// The listing program gets every name that begins with `listing`; the other
 /// names are programs of their own.
-pub const NAMES: [&str; 8] = [
+pub const NAMES: [&str; 9] = [
     "samples",
     "every",
     "calls",
+    "archive_cases",
     "listing",
     "listing-sample",
     "listing-cut",
@@ -25,6 +26,7 @@ pub fn input(name: &str) -> Option<Vec<u8>> {
     let input = match name {
         "samples" | "every" => Vec::new(),
         "calls" => stream::write(&cases::all()),
+        "archive_cases" => stream::write(&cases::of_archives()),
         "listing" => cases::listings::long(),
         "listing-sample" => samples::LISTING.to_vec(),
         "listing-cut" => cases::listings::cut(),
@@ -46,7 +48,7 @@ fn output(name: &str, input: &[u8]) -> Vec<u8> {
     match name {
         "samples" => samples::lines(),
         "every" => every::lines(),
-        "calls" => run::answers(input),
+        "calls" | "archive_cases" => run::answers(input),
         _ => listed(input),
     }
 }
@@ -67,7 +69,7 @@ pub struct File {
 /// beside that program; what else the listing is tried on stands in `expected/`.
 fn paths(name: &str) -> [String; 2] {
     let program = match name {
-        "samples" | "every" | "calls" => name,
+        "samples" | "every" | "calls" | "archive_cases" => name,
         "listing-sample" => "listing",
         _ => return ["in", "out"].map(|end| format!("second/expected/{name}.{end}")),
     };

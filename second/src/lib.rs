@@ -3,12 +3,13 @@
 //! 01: "The rest, and every vector for n up to 6, are run and compared with an
 //! independent second program."
 //!
-//! It follows 01's sentences one by one, with sets of leaves, tables of labels,
-//! strings of bits and strings of text, and shares nothing with the library.
+//! It follows the sentences of 01 and 02 one by one, with sets of leaves, tables of
+//! labels, strings of bits and strings of text, and shares nothing with the library.
 //! Where the two ways are open, the plainer one is taken, not the faster one.
 
-// The rules of 01, a file for each of its parts.
+// The rules, a file for each part of 01 and for the archive of 02.
 pub mod answer;
+pub mod archive;
 pub mod building;
 pub mod grammar;
 pub mod newick;
@@ -19,7 +20,7 @@ pub mod table;
 pub mod tree;
 pub mod vector;
 
-// The nine calls and the listing program.
+// The calls and the listing program.
 pub mod calls;
 pub mod listing;
 

@@ -1,10 +1,11 @@
-//! How lists, texts, records and answers stand in the lines of `samples` and
-//! `every`. The format is told in README.md.
+//! How lists, texts, records, archives and answers stand in the lines of `samples`
+//! and `every`. The format is told in README.md.
 
 use crate::answer::Answer;
 use crate::calls;
 use crate::newick::LONGEST_TEXT;
 use crate::vector::MOST_LEAVES;
+use std::fmt::Display;
 
 /// Numbers with commas; a list longer than any vector by its length alone.
 pub fn list(numbers: &[u16]) -> String {
@@ -25,7 +26,8 @@ pub fn text(bytes: &[u8]) -> String {
     String::from_utf8_lossy(bytes).into_owned()
 }
 
-/// Two upper-case digits a byte, nothing between them.
+/// A record, an archive or a part of one: two upper-case digits a byte, nothing
+/// between them.
 pub fn record(bytes: &[u8]) -> String {
     if bytes.is_empty() {
         return "-".to_string();
@@ -33,7 +35,7 @@ pub fn record(bytes: &[u8]) -> String {
     bytes.iter().map(|byte| format!("{byte:02X}")).collect()
 }
 
-/// Room for every result there is: a table of 1,024 leaves, the longest text.
+/// Room for every result of a sample: a table of 1,024 leaves, the longest text.
 const AMPLE_WORDS: usize = 3 * (MOST_LEAVES - 1);
 const AMPLE_BYTES: usize = LONGEST_TEXT;
 
@@ -54,7 +56,11 @@ impl Lines {
             Answer::Done(_) => written,
             Answer::Refused(_) => "-",
         };
-        self.text += &format!("{call} {inputs} : {answer} : {written}\n");
+        self.line(call, inputs, answer, written);
+    }
+
+    fn line(&mut self, call: &str, inputs: &str, given: impl Display, written: &str) {
+        self.text += &format!("{call} {inputs} : {given} : {written}\n");
     }
 
     pub fn check(&mut self, v: &[u16]) {
@@ -106,6 +112,25 @@ impl Lines {
         let (answer, vector) = words(|out| calls::relabel(v, p, out));
         let inputs = format!("{} {}", list(v), list(p));
         self.add("relabel", &inputs, answer, &list(&vector));
+    }
+
+    pub fn write_archive(&mut self, leaves: u64, entries: &[u16]) -> Vec<u8> {
+        let (answer, bytes) = bytes(|out| calls::write_archive(leaves, entries, out));
+        let inputs = format!("{leaves} {}", list(entries));
+        self.add("write_archive", &inputs, answer, &record(&bytes));
+        bytes
+    }
+
+    pub fn read_tree(&mut self, archive: &[u8], tree: u64) {
+        let (answer, v) = words(|out| calls::read_tree(archive, tree, out));
+        let inputs = format!("{} {tree}", record(archive));
+        self.add("read_tree", &inputs, answer, &list(&v));
+    }
+
+    pub fn view(&mut self, archive: &[u8], tree: u64) {
+        let part = calls::view(archive, tree);
+        let inputs = format!("{} {tree}", record(archive));
+        self.line("view", &inputs, part, &record(part.of(archive)));
     }
 }
 

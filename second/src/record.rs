@@ -7,16 +7,21 @@
 use crate::answer::{refuse, Refusal, LENGTH, PADDING};
 use crate::vector::{bound, entries_within_bounds, leaf_count};
 
-const BITS_OF_N: usize = 11;
+pub const BITS_OF_N: usize = 11;
 
 /// "as many bits as the number 2(i-1) needs", for i from 2.
 pub fn width(i: usize) -> usize {
     format!("{:b}", bound(i)).len()
 }
 
+/// The bits of v(2) to v(n-1) together.
+pub fn bits_of_fields(n: usize) -> usize {
+    (2..n).map(width).sum()
+}
+
 /// L(n), the bits of a record before padding.
 pub fn length_in_bits(n: usize) -> usize {
-    BITS_OF_N + (2..n).map(width).sum::<usize>()
+    BITS_OF_N + bits_of_fields(n)
 }
 
 /// The length of a record of n leaves with its padding.
@@ -26,14 +31,22 @@ pub fn length_in_bytes(n: usize) -> usize {
 
 /// The record of a vector that is accepted.
 pub fn record(v: &[u16]) -> Vec<u8> {
-    let mut bits = format!("{:0width$b}", v.len(), width = BITS_OF_N);
-    for (i, entry) in v.iter().enumerate().skip(2) {
-        bits += &format!("{:0width$b}", entry, width = width(i));
-    }
+    let n = format!("{:0width$b}", v.len(), width = BITS_OF_N);
+    bytes(&padded(n + &fields(v)))
+}
+
+/// The bits of v(2), v(3) .. v(n-1).
+pub fn fields(v: &[u16]) -> String {
+    let later = v.iter().enumerate().skip(2);
+    later.map(|(i, entry)| format!("{:0width$b}", entry, width = width(i))).collect()
+}
+
+/// "then zero bits to the end of the byte"
+pub fn padded(mut bits: String) -> String {
     while bits.len() % 8 != 0 {
         bits.push('0');
     }
-    bytes(&bits)
+    bits
 }
 
 /// The bytes of a string of bits, eight a byte.
@@ -78,7 +91,7 @@ pub fn read(record: &[u8]) -> Result<Vec<u16>, Refusal> {
 }
 
 /// Takes the fields of v(2) to v(n-1) off the string one by one.
-fn entries(n: usize, mut fields: &str) -> Vec<u16> {
+pub fn entries(n: usize, mut fields: &str) -> Vec<u16> {
     let mut v = vec![0; n];
     for (i, entry) in v.iter_mut().enumerate().skip(2) {
         let (field, later) = fields.split_at(width(i));

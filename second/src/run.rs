@@ -1,13 +1,32 @@
-//! Makes the calls of a stream, and writes the lines that the program `calls` must
-//! write. The format is told in README.md.
+//! Makes the calls of a stream, and writes the lines that the program which reads
+//! it must write. The format is told in README.md.
 //!
 //! 01: "For each public call the statement settles number, place, count and each
 //! element of each lent buffer after it, for all inputs, refused ones too." So a
-//! line has the answer and a hash of each whole buffer.
+//! line has the answer and a hash of each whole buffer. The view gives a part and
+//! no answer; its line has a hash of the bytes there.
 
 use crate::answer::Answer;
+use crate::archive::Part;
 use crate::calls;
 use crate::stream::{number, read, Case, Lent};
+use std::fmt;
+
+/// What comes back from a call: an answer, or the part that the view gives.
+#[derive(Clone, Copy, Debug, PartialEq, Eq)]
+pub enum Given {
+    Answer(Answer),
+    Part(Part),
+}
+
+impl fmt::Display for Given {
+    fn fmt(&self, f: &mut fmt::Formatter) -> fmt::Result {
+        match self {
+            Given::Answer(answer) => answer.fmt(f),
+            Given::Part(part) => part.fmt(f),
+        }
+    }
+}
 
 impl Lent {
     /// "prior element k": the seed and 31 for each element before it.
@@ -23,18 +42,19 @@ impl Lent {
 
 /// A line of the expected output without its index.
 pub fn line(case: &Case) -> String {
-    let (answer, hashes) = run(case);
-    let mut line = format!("{} {answer}", number(case));
+    let (given, hashes) = run(case);
+    let mut line = format!("{} {given}", number(case));
     for hash in hashes {
         line += &format!(" {hash:08x}");
     }
     line
 }
 
-/// Makes the call: its answer, and a hash of each lent buffer after it.
-pub fn run(case: &Case) -> (Answer, Vec<u32>) {
+/// Makes the call: what it gives, and a hash of each lent buffer after it, or of
+/// the part's bytes.
+pub fn run(case: &Case) -> (Given, Vec<u32>) {
     match case {
-        Case::Check { v } => (calls::check(v), Vec::new()),
+        Case::Check { v } => (Given::Answer(calls::check(v)), Vec::new()),
         Case::ToTable { v, out } => in_words(out, |out| calls::to_table(v, out)),
         Case::FromTable { leaves, rows, out } => {
             in_words(out, |out| calls::from_table(*leaves, rows, out))
@@ -47,22 +67,32 @@ pub fn run(case: &Case) -> (Answer, Vec<u32>) {
             let mut new = new_out.words();
             let mut vector = vector_out.words();
             let answer = calls::shuffle(v, &mut new, &mut vector);
-            (answer, vec![hash_words(&new), hash_words(&vector)])
+            (Given::Answer(answer), vec![hash_words(&new), hash_words(&vector)])
         }
         Case::Relabel { v, p, out } => in_words(out, |out| calls::relabel(v, p, out)),
+        Case::WriteArchive { leaves, entries, out } => {
+            in_bytes(out, |out| calls::write_archive(*leaves, entries, out))
+        }
+        Case::ReadTree { archive, tree, out } => {
+            in_words(out, |out| calls::read_tree(archive, *tree, out))
+        }
+        Case::View { archive, tree } => {
+            let part = calls::view(archive, *tree);
+            (Given::Part(part), vec![hash(part.of(archive))])
+        }
     }
 }
 
-fn in_words(lent: &Lent, call: impl FnOnce(&mut [u16]) -> Answer) -> (Answer, Vec<u32>) {
+fn in_words(lent: &Lent, call: impl FnOnce(&mut [u16]) -> Answer) -> (Given, Vec<u32>) {
     let mut out = lent.words();
     let answer = call(&mut out);
-    (answer, vec![hash_words(&out)])
+    (Given::Answer(answer), vec![hash_words(&out)])
 }
 
-fn in_bytes(lent: &Lent, call: impl FnOnce(&mut [u8]) -> Answer) -> (Answer, Vec<u32>) {
+fn in_bytes(lent: &Lent, call: impl FnOnce(&mut [u8]) -> Answer) -> (Given, Vec<u32>) {
     let mut out = lent.bytes();
     let answer = call(&mut out);
-    (answer, vec![hash(&out)])
+    (Given::Answer(answer), vec![hash(&out)])
 }
 
 fn hash_words(words: &[u16]) -> u32 {

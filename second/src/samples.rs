@@ -1,4 +1,5 @@
-//! The samples of 01 and its refused inputs, a line for each call.
+//! The samples of 01 and its refused inputs, and samples of 02's archive; a line for
+//! each call.
 //!
 //! 01: "The marked ones (*) are proved of the definitions [..]. The rest, and
 //! every vector for n up to 6, are run and compared with an independent second
@@ -30,11 +31,37 @@ pub const ROWS: [u16; 9] = [1, 0, 4, 3, 2, 5, 5, 4, 6];
 /// "Input 00 8C 00 40 00 91 00 gives" four lines.
 pub const LISTING: [u8; 7] = [0x00, 0x8C, 0x00, 0x40, 0x00, 0x91, 0x00];
 
+/// Two trees of four leaves, and three of one.
+pub const TWO_TREES: [u16; 8] = [0, 0, 1, 4, 0, 0, 2, 1];
+pub const THREE_LEAVES: [u16; 3] = [0; 3];
+
+/// Lists that the archive's writer refuses, with their leaf counts: 1, 1, 2 at 4 and
+/// 4 at 7.
+pub const REFUSED_LISTS: [(u64, &[u16]); 4] =
+    [(0, &[]), (1025, &[]), (4, &[0, 0, 1]), (4, &[0, 0, 1, 4, 0, 0, 2, 5])];
+
+/// Archives, and the trees that are read of them: a cut header; one byte cut off and
+/// one too many; n = 2047 and n = 0; v(3) above its bound in record 1, and a padding
+/// bit set there; as many trees of one leaf as there may be.
+pub const READ: [(&[u8], u64); 10] = [
+    (&[0x00, 0x80, 0x00], 0),
+    (&[0x00, 0x80, 0x00, 0x02, 0x60], 0),
+    (&[0x00, 0x80, 0x00, 0x02, 0x60, 0x88, 0x00], 0),
+    (&[0xFF, 0xE0, 0x00, 0x02, 0x60, 0x88], 0),
+    (&[0x00, 0x00, 0x00, 0x02, 0x60, 0x88], 0),
+    (&[0x00, 0x80, 0x00, 0x02, 0x60, 0xA8], 0),
+    (&[0x00, 0x80, 0x00, 0x02, 0x60, 0xA8], 1),
+    (&[0x00, 0x80, 0x00, 0x02, 0x60, 0x89], 1),
+    (&[0x00, 0x3F, 0xFF, 0xFF], 2_097_150),
+    (&[0x00, 0x3F, 0xFF, 0xFF], 2_097_151),
+];
+
 pub fn lines() -> Vec<u8> {
     let mut lines = Lines::default();
     for v in VECTORS {
         lines.check(v);
         there_and_back(&mut lines, v);
+        lines.shuffle(v);
     }
     lines.from_table(4, &ROWS);
     lines.relabel(&[0, 0, 1, 4], &[1, 0, 2, 3]);
@@ -45,10 +72,32 @@ pub fn lines() -> Vec<u8> {
         lines.from_newick(text.as_bytes());
     }
     lines.unpack(&[0x00, 0x41]);
+    archives(&mut lines);
     lines.into_bytes()
 }
 
-/// A vector to each form and each form back to a vector, and its shuffle.
+fn archives(lines: &mut Lines) {
+    let two = lines.write_archive(4, &TWO_TREES);
+    for tree in 0..3 {
+        lines.read_tree(&two, tree);
+        lines.view(&two, tree);
+    }
+    let none = lines.write_archive(4, &[]);
+    lines.read_tree(&none, 0);
+    lines.view(&none, 0);
+    let three = lines.write_archive(1, &THREE_LEAVES);
+    lines.read_tree(&three, 2);
+    lines.view(&three, 2);
+    lines.read_tree(&three, 3);
+    for (leaves, entries) in REFUSED_LISTS {
+        lines.write_archive(leaves, entries);
+    }
+    for (archive, tree) in READ {
+        lines.read_tree(archive, tree);
+    }
+}
+
+/// A vector to each form and each form back to a vector.
 pub fn there_and_back(lines: &mut Lines, v: &[u16]) {
     let rows = lines.to_table(v);
     lines.from_table(v.len() as u64, &rows);
@@ -56,7 +105,6 @@ pub fn there_and_back(lines: &mut Lines, v: &[u16]) {
     lines.from_newick(&text);
     let record = lines.pack(v);
     lines.unpack(&record);
-    lines.shuffle(v);
 }
 
 /// A vector is refused alike by every call that begins from it.

@@ -1,8 +1,12 @@
-//! The stream of cases that the program `calls` reads. The format is told in
-//! README.md.
+//! The streams of cases that the programs `calls` and `archive_cases` read. The
+//! format is told in README.md.
 //!
-//! 01: the nine calls, and "vector and table numbers are 16 bits wide"; so a list
-//! is a length and its elements, of two bytes or one.
+//! 01: the nine calls, to which 02 adds the archive's three; and "vector and table
+//! numbers are 16 bits wide"; so a list is a length and its elements, of two bytes
+//! or one. A leaf count and a tree's number may be any number of 64 bits.
+
+/// No list of a stream has more elements, and no buffer.
+pub const LONGEST: usize = 8192;
 
 /// A buffer to lend: its room, and the seed of what it holds before the call.
 #[derive(Clone, Copy, Debug, PartialEq, Eq)]
@@ -23,9 +27,12 @@ pub enum Case {
     Unpack { record: Vec<u8>, out: Lent },
     Shuffle { v: Vec<u16>, new_out: Lent, vector_out: Lent },
     Relabel { v: Vec<u16>, p: Vec<u16>, out: Lent },
+    WriteArchive { leaves: u64, entries: Vec<u16>, out: Lent },
+    ReadTree { archive: Vec<u8>, tree: u64, out: Lent },
+    View { archive: Vec<u8>, tree: u64 },
 }
 
-/// The call's number, by the order of the nine calls.
+/// The call's number, by the order of the calls in 01 and then in 02.
 pub fn number(case: &Case) -> u8 {
     match case {
         Case::Check { .. } => 1,
@@ -37,6 +44,9 @@ pub fn number(case: &Case) -> u8 {
         Case::Unpack { .. } => 7,
         Case::Shuffle { .. } => 8,
         Case::Relabel { .. } => 9,
+        Case::WriteArchive { .. } => 10,
+        Case::ReadTree { .. } => 11,
+        Case::View { .. } => 12,
     }
 }
 
@@ -61,7 +71,7 @@ impl Writer {
             Case::Check { v } => self.call(number(case)).words(v),
             Case::ToTable { v, out } => self.call(number(case)).words(v).lent(out),
             Case::FromTable { leaves, rows, out } => {
-                self.call(number(case)).leaves(*leaves).words(rows).lent(out)
+                self.call(number(case)).wide(*leaves).words(rows).lent(out)
             }
             Case::ToNewick { v, out } => self.call(number(case)).words(v).lent(out),
             Case::FromNewick { text, out } => self.call(number(case)).text(text).lent(out),
@@ -71,6 +81,13 @@ impl Writer {
                 self.call(number(case)).words(v).lent(new_out).lent(vector_out)
             }
             Case::Relabel { v, p, out } => self.call(number(case)).words(v).words(p).lent(out),
+            Case::WriteArchive { leaves, entries, out } => {
+                self.call(number(case)).wide(*leaves).words(entries).lent(out)
+            }
+            Case::ReadTree { archive, tree, out } => {
+                self.call(number(case)).text(archive).wide(*tree).lent(out)
+            }
+            Case::View { archive, tree } => self.call(number(case)).text(archive).wide(*tree),
         };
     }
 
@@ -85,8 +102,9 @@ impl Writer {
         self
     }
 
-    fn leaves(&mut self, leaves: u64) -> &mut Writer {
-        self.bytes.extend(leaves.to_le_bytes());
+    /// A number of 64 bits.
+    fn wide(&mut self, number: u64) -> &mut Writer {
+        self.bytes.extend(number.to_le_bytes());
         self
     }
 
@@ -132,13 +150,18 @@ impl Reader<'_> {
             0 => return None,
             1 => Case::Check { v: self.words() },
             2 => Case::ToTable { v: self.words(), out: self.lent() },
-            3 => Case::FromTable { leaves: self.leaves(), rows: self.words(), out: self.lent() },
+            3 => Case::FromTable { leaves: self.wide(), rows: self.words(), out: self.lent() },
             4 => Case::ToNewick { v: self.words(), out: self.lent() },
             5 => Case::FromNewick { text: self.text(), out: self.lent() },
             6 => Case::Pack { v: self.words(), out: self.lent() },
             7 => Case::Unpack { record: self.text(), out: self.lent() },
             8 => Case::Shuffle { v: self.words(), new_out: self.lent(), vector_out: self.lent() },
             9 => Case::Relabel { v: self.words(), p: self.words(), out: self.lent() },
+            10 => {
+                Case::WriteArchive { leaves: self.wide(), entries: self.words(), out: self.lent() }
+            }
+            11 => Case::ReadTree { archive: self.text(), tree: self.wide(), out: self.lent() },
+            12 => Case::View { archive: self.text(), tree: self.wide() },
             other => panic!("there is no call {other}"),
         };
         Some(case)
@@ -155,7 +178,7 @@ impl Reader<'_> {
         self.take(bytes).iter().rev().fold(0, |number, &byte| number << 8 | u64::from(byte))
     }
 
-    fn leaves(&mut self) -> u64 {
+    fn wide(&mut self) -> u64 {
         self.number(8)
     }
 

@@ -3,9 +3,10 @@
 
 mod common;
 
+use common::{hashes_before, lengths};
 use second::answer::Answer::{self, Done, Refused};
 use second::cases;
-use second::run::{hash, line, run};
+use second::run::{hash, line, run, Given};
 use second::stream::{self, Case, Lent};
 use std::collections::BTreeMap;
 use std::sync::{Arc, Mutex};
@@ -22,8 +23,10 @@ fn all() -> Arc<Vec<Ran>> {
 }
 
 fn ran(case: Case) -> Ran {
-    let (answer, hashes) = run(&case);
-    (case, answer, hashes)
+    match run(&case) {
+        (Given::Answer(answer), hashes) => (case, answer, hashes),
+        (Given::Part(_), _) => panic!("the view is no call of 01"),
+    }
 }
 
 /// How often each call gives each refusal; 0 stands for done.
@@ -69,21 +72,6 @@ fn there_are_enough_cases_and_they_are_small_enough() {
     assert!(stream::write(&all).len() <= 4 << 20);
     let longest = all.iter().flat_map(lengths).max().unwrap();
     assert!(longest > 6056 && longest <= 8192, "{longest}");
-}
-
-/// The lengths of inputs and rooms of a case.
-fn lengths(case: &Case) -> Vec<usize> {
-    match case {
-        Case::Check { v } => vec![v.len()],
-        Case::ToTable { v, out } | Case::ToNewick { v, out } | Case::Pack { v, out } => {
-            vec![v.len(), out.room]
-        }
-        Case::FromTable { rows, out, .. } => vec![rows.len(), out.room],
-        Case::FromNewick { text, out } => vec![text.len(), out.room],
-        Case::Unpack { record, out } => vec![record.len(), out.room],
-        Case::Shuffle { v, new_out, vector_out } => vec![v.len(), new_out.room, vector_out.room],
-        Case::Relabel { v, p, out } => vec![v.len(), p.len(), out.room],
-    }
 }
 
 /// Of each call that makes a vector, the leaf counts at both ends are done.
@@ -178,23 +166,6 @@ fn refusals_leave_buffers_alone() {
         }
     }
     assert!(refusals > 1000);
-}
-
-fn hashes_before(case: &Case) -> Vec<u32> {
-    let words = |lent: &Lent| {
-        let bytes: Vec<u8> = lent.words().iter().flat_map(|word| word.to_le_bytes()).collect();
-        hash(&bytes)
-    };
-    match case {
-        Case::Check { .. } => Vec::new(),
-        Case::ToNewick { out, .. } | Case::Pack { out, .. } => vec![hash(&out.bytes())],
-        Case::Shuffle { new_out, vector_out, .. } => vec![words(new_out), words(vector_out)],
-        Case::ToTable { out, .. }
-        | Case::FromTable { out, .. }
-        | Case::FromNewick { out, .. }
-        | Case::Unpack { out, .. }
-        | Case::Relabel { out, .. } => vec![words(out)],
-    }
 }
 
 /// The rows of another order give the tree that they tell of.

@@ -116,12 +116,12 @@ fn in_order(tree: &Tree) -> bool {
     }
 }
 
-/// 1,070 vectors for n up to 6, seven lines each, in rising order.
+/// 1,070 vectors for n up to 6, ten lines each, in rising order.
 #[test]
 fn the_lines_hold_every_vector_in_order() {
     let lines = String::from_utf8(every::lines()).unwrap();
-    assert_eq!(lines.lines().count(), 1070 * 7);
-    let first: Vec<&str> = lines.lines().skip(14).take(8).collect();
+    assert_eq!(lines.lines().count(), 1070 * 10);
+    let first: Vec<&str> = lines.lines().skip(20).take(11).collect();
     assert_eq!(
         first,
         [
@@ -131,6 +131,9 @@ fn the_lines_hold_every_vector_in_order() {
             "from_newick ((0,2),1); : done 3 : 0,0,0",
             "pack 0,0,0 : done 2 : 0060",
             "unpack 0060 : done 3 : 0,0,0",
+            "write_archive 3 0,0,0 : done 5 : 0060000100",
+            "read_tree 0060000100 0 : done 3 : 0,0,0",
+            "view 0060000100 0 : part 4 1 : 00",
             "shuffle 0,0,0 : done 3 : 0,1,2 0,0,0",
             "to_table 0,0,1 : done 6 : 1,2,3,0,3,4",
         ]

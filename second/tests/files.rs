@@ -20,9 +20,14 @@ fn the_repository_holds_what_would_be_written_now() {
 #[test]
 fn what_the_gate_runs_stands_beside_its_program() {
     let paths: Vec<String> = all().into_iter().map(|file| file.path).collect();
-    for path in ["crates/samples/stdout", "crates/calls/stdin", "crates/listing/stdin"] {
-        assert!(paths.iter().any(|found| found == path), "{path}");
+    for program in ["calls", "archive_cases", "listing"] {
+        for file in ["stdin", "stdout"] {
+            let path = format!("crates/{program}/{file}");
+            assert!(paths.contains(&path), "{path}");
+        }
     }
+    assert!(paths.contains(&"crates/samples/stdout".to_string()));
+    assert!(paths.contains(&"crates/every/stdout".to_string()));
 }
 
 #[test]

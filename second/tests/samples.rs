@@ -1,5 +1,5 @@
 //! 01's samples, marked or not, and its refused inputs, with the results as 01
-//! gives them.
+//! gives them; and the lines of 02's archive, worked out by hand in archive.rs.
 
 mod common;
 
@@ -120,5 +120,46 @@ fn the_lines_hold_all_samples() {
     ] {
         assert_eq!(lines.matches(wanted).count(), 1, "{wanted}");
     }
-    assert_eq!(lines.lines().count(), 8 * 8 + 2 + 4 * 6 + 7 + 1);
+    assert_eq!(lines.lines().count(), 8 * 8 + 2 + 4 * 6 + 7 + 1 + ARCHIVES.len());
+}
+
+/// The lines of the archive, the last ones.
+const ARCHIVES: [&str; 28] = [
+    "write_archive 4 0,0,1,4,0,0,2,1 : done 6 : 008000026088",
+    "read_tree 008000026088 0 : done 4 : 0,0,1,4",
+    "view 008000026088 0 : part 4 1 : 60",
+    "read_tree 008000026088 1 : done 4 : 0,0,2,1",
+    "view 008000026088 1 : part 5 1 : 88",
+    "read_tree 008000026088 2 : refused 12 2 : -",
+    "view 008000026088 2 : part 0 0 : -",
+    "write_archive 4 - : done 4 : 00800000",
+    "read_tree 00800000 0 : refused 12 0 : -",
+    "view 00800000 0 : part 0 0 : -",
+    "write_archive 1 0,0,0 : done 4 : 00200003",
+    "read_tree 00200003 2 : done 1 : 0",
+    "view 00200003 2 : part 4 0 : -",
+    "read_tree 00200003 3 : refused 12 3 : -",
+    "write_archive 0 - : refused 1 0 : -",
+    "write_archive 1025 - : refused 1 0 : -",
+    "write_archive 4 0,0,1 : refused 2 4 : -",
+    "write_archive 4 0,0,1,4,0,0,2,5 : refused 4 7 : -",
+    "read_tree 008000 0 : refused 2 4 : -",
+    "read_tree 0080000260 0 : refused 2 6 : -",
+    "read_tree 00800002608800 0 : refused 2 6 : -",
+    "read_tree FFE000026088 0 : refused 1 0 : -",
+    "read_tree 000000026088 0 : refused 1 0 : -",
+    "read_tree 0080000260A8 0 : done 4 : 0,0,1,4",
+    "read_tree 0080000260A8 1 : refused 4 3 : -",
+    "read_tree 008000026089 1 : refused 10 0 : -",
+    "read_tree 003FFFFF 2097150 : done 1 : 0",
+    "read_tree 003FFFFF 2097151 : refused 12 2097151 : -",
+];
+
+#[test]
+fn the_lines_end_with_those_of_the_archive() {
+    let lines = String::from_utf8(samples::lines()).unwrap();
+    let first = lines.lines().count() - ARCHIVES.len();
+    let last: Vec<&str> = lines.lines().skip(first).collect();
+    assert_eq!(last, ARCHIVES);
+    assert_eq!(lines.lines().nth(first - 1), Some("unpack 0041 : refused 10 1 : -"));
 }

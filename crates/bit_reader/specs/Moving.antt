@@ -1,13 +1,13 @@
 -- A reading position that moves over the bytes that it was lent.
--- Main definitions: atStart, movedOn.
+-- Main definitions: atBit, movedOn.
 use mathlib.Core.List.{List}
 use Prim.Native.Nat.{ℕ, _+_}
 use denote.Ref.{RefT}
 use Rattle.bit_reader.specs.declared.Reader.{Reader}
 
--- before the first bit
-abbrev pub atStart : RefT (List ℕ) → Reader
-atStart bytes = record { bytes = bytes; at = 0 }
+-- before bit n
+abbrev pub atBit : ℕ → RefT (List ℕ) → Reader
+atBit n bytes = record { bytes = bytes; at = n }
 
 -- w bits further on, over the same bytes
 abbrev pub movedOn : ℕ → Reader → Reader

@@ -3,7 +3,7 @@ ghost use mathlib.Core.Path.{_≡_};
 ghost use Prim.Native.Nat.{_*_};
 ghost use lib.ListN.{length};
 ghost use Rattle.bits.specs.Fields.{fieldRead, fourRead, FieldInside, FourInside};
-ghost use Rattle.bit_reader.specs.Moving.{atStart, movedOn};
+ghost use Rattle.bit_reader.specs.Moving.{atBit, movedOn};
 
 /// A reading position over the bytes that it was lent: the next bit is bit `at`.
 pub struct Reader<'a> {
@@ -11,11 +11,11 @@ pub struct Reader<'a> {
     pub at: usize,
 }
 
-/// A reading position at the first bit.
-pub fn reading<'a>(bytes: &'a [u8]) -> Reader<'a>
-    ensures { λ r. ⌜ r ≡ atStart (bytes .entry) ⌝ }
+/// A reading position at bit `at`.
+pub fn reading<'a>(bytes: &'a [u8], at: usize) -> Reader<'a>
+    ensures { λ r. ⌜ r ≡ atBit at (bytes .entry) ⌝ }
 {
-    Reader { bytes, at: 0 }
+    Reader { bytes, at }
 }
 
 /// Reads a field into place i, and gives the position moved on behind it.
@@ -41,5 +41,5 @@ pub fn first_field(s: &[u8], width: u32, out: &mut [u16])
     requires { ⌜ FieldInside (now s) 0 width (length (now out)) 0 ⌝ }
     ensures { λ _. ⌜ now (out .exit) ≡ fieldRead (now (s .entry)) 0 width (now (out .entry)) 0 ⌝ }
 {
-    next_field(reading(s), width, out, 0);
+    next_field(reading(s, 0), width, out, 0);
 }

@@ -1,5 +1,5 @@
 -- How bits are held while a field is put behind them: pushed in from below, and all that is held stored as one word.
--- Main results: put-held, none-held.
+-- Main results: put-counted, none-held.
 use mathlib.Core.Path.{_≡_, refl, sym, ap, _∙_}
 use mathlib.Core.List.{List, _++_, append-nil}
 use Prim.Native.Nat.{ℕ, _+_, _-_, _*_, _/_, _%_, _^_, _≤_, _<_}
@@ -107,7 +107,7 @@ module _ (bits : Bits) (acc have at : ℕ) (buffer : List ℕ) (w x : ℕ) (r : 
       small : number (drop (8 * d) (drop (8 * at) more)) < 2 ^ m
       small = rw size at (number-lt (drop (8 * d) (drop (8 * at) more)) (are-drop (8 * d) (drop (8 * at) more) (are-drop (8 * at) more are-more)))
 
-  pub put-held : HoldsBits more next ((have + w) % 8) (at + (have + w) / 8) (wordStored buffer at (next * 2 ^ (64 - (have + w)) % 2 ^ 64))
+  put-held : HoldsBits more next ((have + w) % 8) (at + (have + w) / 8) (wordStored buffer at (next * 2 ^ (64 - (have + w)) % 2 ^ 64))
   put-held =
       let stored = word-stored more are-more at (have + w) length-more (omega arith) (next * 2 ^ (64 - (have + w)) % 2 ^ 64) word-more buffer whole room in
       let k : at + (have + w) / 8 + 1 ≤ at + 8 = omega arith in
@@ -120,6 +120,16 @@ module _ (bits : Bits) (acc have at : ℕ) (buffer : List ℕ) (w x : ℕ) (r : 
             ∙ ap (take (at + (have + w) / 8 + 1)) stored
             ∙ bytes-take (at + (have + w) / 8 + 1) (at + 8) more k;
       }
+
+-- the same over the count of the bits
+pub put-counted : (bits : Bits) (acc count : ℕ) (buffer : List ℕ) (w x : ℕ) → HoldsBits bits acc (count % 8) (count / 8) buffer → count % 8 + w < 64 → x < 2 ^ w
+    → count / 8 + 8 ≤ length buffer
+    → HoldsBits (bits ++ field w x) (bitOr (acc * 2 ^ w % 2 ^ 64) x) ((count + w) % 8) ((count + w) / 8)
+    (wordStored buffer (count / 8) (bitOr (acc * 2 ^ w % 2 ^ 64) x * 2 ^ (64 - (count % 8 + w)) % 2 ^ 64))
+put-counted bits acc count buffer w x r h l room =
+    let a : (count % 8 + w) % 8 ≡ (count + w) % 8 = omega arith in
+    let b : count / 8 + (count % 8 + w) / 8 ≡ (count + w) / 8 = omega arith in
+    rw (a, b) at (put-held bits acc (count % 8) (count / 8) buffer w x r h l room)
 
 -- a field without bits
 pub none-held : (bits : Bits) (acc have at : ℕ) (buffer : List ℕ) (w x : ℕ) → w ≡ 0 → HoldsBits bits acc have at buffer → HoldsBits (bits ++ field w x) acc have at buffer

@@ -1,8 +1,9 @@
 -- Bits on their way into bytes, and what it means to put a field behind them.
--- Main definitions: HoldsBits, Put, wordStored.
-use mathlib.Core.Path.{_≡_}
-use mathlib.Core.List.{List, _++_}
-use Prim.Native.Nat.{ℕ, _+_, _*_, _/_, _%_, _^_, _<_}
+-- Main definitions: HoldsBits, Held, Room, Put, wordStored. Main results: held-nothing.
+use mathlib.Core.Path.{_≡_, refl}
+use mathlib.Core.List.{List, [], _∷_, _++_}
+use Prim.Native.Nat.{ℕ, _+_, _*_, _/_, _%_, _^_, _≤_}
+use native.Mathlib.Nat.{mod-one}
 use lib.ListN.{length, take, drop, set}
 use Rattle.rules.specs.Record.{Bits, field, number, bytesOf}
 use Rattle.record_laws.specs.Number.{AreBits}
@@ -15,11 +16,22 @@ pub record HoldsBits (bits : Bits) (acc have at : ℕ) (buffer : List ℕ) : Typ
   pub value : acc % 2 ^ have ≡ number (drop (8 * at) bits)
   pub stored : take (at + 1) buffer ≡ bytesOf (at + 1) bits
 
+-- So are the bits that are pending.
+abbrev pub Held : Bits → Pending → List ℕ → Type 0
+Held bits p buffer = HoldsBits bits (p .acc) (p .bits % 8) (p .bits / 8) buffer
+
+pub held-nothing : (p : Pending) (buffer : List ℕ) → p .bits ≡ 0 → take 1 buffer ≡ 0 ∷ [] → Held [] p buffer
+unfolding AreBits number bytesOf
+held-nothing p buffer e zero = rw e (record { are = tt; count = refl; value = mod-one (p .acc); stored = zero })
+
+-- There is room for a word, in a buffer whose bits can be counted.
+abbrev pub Room : Pending → ℕ → Type 0
+Room p room = (p .bits / 8 + 8 ≤ room) × (room ≤ 65536)
+
 -- One field more is held, whatever bits were held before it.
 pub record Put (p : Pending) (width x : ℕ) (before : List ℕ) (r : Pending) (after : List ℕ) : Type 0 where
-  pub below : r .have < 8
-  pub count : 8 * r .at + r .have ≡ 8 * p .at + p .have + width
-  pub held : (bits : Bits) → HoldsBits bits (p .acc) (p .have) (p .at) before → HoldsBits (bits ++ field width x) (r .acc) (r .have) (r .at) after
+  pub count : r .bits ≡ p .bits + width
+  pub held : (bits : Bits) → Held bits p before → Held (bits ++ field width x) r after
 
 -- eight bytes of a word in a buffer
 unfoldable pub wordStored : List ℕ → ℕ → ℕ → List ℕ

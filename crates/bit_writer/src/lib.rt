@@ -2,13 +2,19 @@
 ghost use mathlib.Core.Path.{_≡_};
 ghost use Prim.Native.Nat.{_+_, _≤_, _<_, _^_};
 ghost use lib.ListN.{length};
-ghost use Rattle.bit_writer.specs.Pending.{Put, wordStored};
+ghost use Rattle.bit_writer.specs.Pending.{Room, Put, wordStored};
 
-/// Bits on their way into bytes: those before byte `at` are whole, and byte `at` begins with the low `have` bits of `acc`.
+/// Bits on their way into bytes: how many there are. Those that begin a byte and do not fill it are the low bits of `acc`.
 pub struct Pending {
     pub acc: u64,
-    pub have: u32,
-    pub at: usize,
+    pub bits: usize,
+}
+
+/// No bits are held.
+pub fn nothing() -> Pending
+    ensures { λ r. ⌜ r .bits ≡ 0 ⌝ }
+{
+    Pending { acc: 0, bits: 0 }
 }
 
 // Stores the eight bytes of a word.
@@ -28,23 +34,21 @@ fn store_word(out: &mut [u8], at: usize, word: u64)
 
 /// Appends the `width` bits of x, one at least, by a word that ends in zero bits.
 pub fn put_bits(out: &mut [u8], p: Pending, width: u32, x: u64) -> Pending
-    requires { ⌜ (p .have < 8) × (1 ≤ width) × (width ≤ 56) × (x < 2 ^ width) × (p .at + 8 ≤ length (now out)) ⌝ }
+    requires { ⌜ (1 ≤ width) × (width ≤ 56) × (x < 2 ^ width) × Room p (length (now out)) ⌝ }
     ensures { λ r. ⌜ Put p width x (now (out .entry)) r (now (out .exit)) ⌝ }
 {
     let acc = (p.acc << width) | x;
-    let have = p.have + width;
-    let at = p.at;
-    store_word(out, at, acc << (64 - have));
+    let have = (p.bits % 8) as u32 + width;
+    store_word(out, p.bits / 8, acc << (64 - have));
     Pending {
         acc,
-        have: have % 8,
-        at: at + (have / 8) as usize,
+        bits: p.bits + width as usize,
     }
 }
 
 /// Appends the `width` bits of x, or nothing where it has none.
 pub fn put_field(out: &mut [u8], p: Pending, width: u32, x: u64) -> Pending
-    requires { ⌜ (p .have < 8) × (width ≤ 56) × (x < 2 ^ width) × (p .at + 8 ≤ length (now out)) ⌝ }
+    requires { ⌜ (width ≤ 56) × (x < 2 ^ width) × Room p (length (now out)) ⌝ }
     ensures { λ r. ⌜ Put p width x (now (out .entry)) r (now (out .exit)) ⌝ }
 {
     if width == 0 {

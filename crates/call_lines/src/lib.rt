@@ -59,6 +59,17 @@ fn end_numbers(given: Answer, out: &[u16]) -> usize
     k
 }
 
+// The same for a record or an archive.
+fn end_bytes(given: Answer, out: &[u8]) -> usize
+    ensures { λ r. ⌜ Counts r (now (out .entry)) ⌝ }
+{
+    answer(given);
+    let k = bytes(given, out);
+    printing::bytes(&out[..k]);
+    printing::byte(b'\n');
+    k
+}
+
 pub fn check(v: &[u16]) {
     io::write_all(1, b"check ");
     list(v);
@@ -112,11 +123,7 @@ pub fn pack(v: &[u16], out: &mut [u8]) -> usize
     io::write_all(1, b"pack ");
     list(v);
     let given = trees::pack(v, out);
-    answer(given);
-    let k = bytes(given, out);
-    printing::bytes(&out[..k]);
-    printing::byte(b'\n');
-    k
+    end_bytes(given, out)
 }
 
 pub fn unpack(record: &[u8]) {
@@ -161,12 +168,51 @@ pub fn relabel(v: &[u16], p: &[u16]) {
     end_numbers(given, &out);
 }
 
-// A vector to each form and each form back to a vector, and its shuffle.
+pub fn write_archive(leaves: usize, entries: &[u16], out: &mut [u8]) -> usize
+    ensures { λ r. ⌜ Counts r (now (out .exit)) ⌝ }
+{
+    io::write_all(1, b"write_archive ");
+    printing::number(leaves);
+    printing::byte(b' ');
+    list(entries);
+    let given = trees::write_archive(leaves, entries, out);
+    end_bytes(given, out)
+}
+
+// The inputs of a call about one tree of an archive.
+fn tree_of(archive: &[u8], tree: usize) {
+    printing::bytes(archive);
+    printing::byte(b' ');
+    printing::number(tree);
+}
+
+pub fn read_tree(archive: &[u8], tree: usize) {
+    io::write_all(1, b"read_tree ");
+    tree_of(archive, tree);
+    let mut out = [0u16; 1024];
+    let given = trees::read_tree(archive, tree, &mut out);
+    end_numbers(given, &out);
+}
+
+// It has no answer, but a place and a length.
+pub fn view(archive: &[u8], tree: usize) {
+    io::write_all(1, b"view ");
+    tree_of(archive, tree);
+    let part = trees::part(archive, tree);
+    io::write_all(1, b" : part ");
+    printing::number(part.start);
+    printing::byte(b' ');
+    printing::number(part.length);
+    io::write_all(1, b" : ");
+    printing::bytes(trees::view(archive, tree));
+    printing::byte(b'\n');
+}
+
+// A vector to each form and each form back to a vector.
 pub fn there_and_back(v: &[u16]) {
     by_table(v);
     by_newick(v);
     by_record(v);
-    shuffle(v);
 }
 
 fn by_table(v: &[u16]) {
@@ -185,4 +231,12 @@ fn by_record(v: &[u16]) {
     let mut record = [0u8; 1280];
     let k = pack(v, &mut record);
     unpack(&record[..k]);
+}
+
+// A vector to the archive of this one tree, and its record and itself from there.
+pub fn by_archive(v: &[u16]) {
+    let mut archive = [0u8; 1284];
+    let k = write_archive(v.len(), v, &mut archive);
+    read_tree(&archive[..k], 0);
+    view(&archive[..k], 0);
 }

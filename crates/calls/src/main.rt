@@ -61,7 +61,7 @@ fn to_table(index: usize, v: &mut [u16], out: &mut [u16]) -> bool {
 }
 
 fn from_table(index: usize, rows: &mut [u16], out: &mut [u16]) -> bool {
-    let leaves = case_stream::leaves();
+    let leaves = case_stream::long_number();
     let given = case_stream::numbers(rows);
     let lent = case_stream::lent_numbers(out);
     let n = given.length;

@@ -1,5 +1,6 @@
 // The C interface: one exported function a call. include/blathersike.h documents each.
 use rules::Answer;
+ghost use mathlib.Core.List.{[], _∷_};
 ghost use mathlib.Core.Path.{_≡_};
 ghost use Rattle.rules.specs.Answer.{reads};
 ghost use Rattle.rules.specs.CallCheck.{check-call};
@@ -11,6 +12,9 @@ ghost use Rattle.rules.specs.CallPack.{pack-call};
 ghost use Rattle.rules.specs.CallUnpack.{unpack-call};
 ghost use Rattle.rules.specs.CallShuffle.{shuffle-call};
 ghost use Rattle.rules.specs.CallRelabel.{relabel-call};
+ghost use Rattle.rules.specs.CallWriteArchive.{write-archive-call};
+ghost use Rattle.rules.specs.CallReadTree.{read-tree-call};
+ghost use Rattle.rules.specs.CallView.{partOf};
 ghost use Rattle.rules.specs.Coded.{coded, Hands};
 
 // The two numbers of an answer.
@@ -108,4 +112,39 @@ pub extern "C" fn blathersike_relabel(v: &[u16], p: &[u16], out: &mut [u16], bac
     ensures { λ r. ⌜ Hands (relabel-call (now (v .entry)) (now (p .entry))) (now (out .entry)) (now (back .exit)) (now (out .exit)) ⌝ }
 {
     hand_back(trees::relabel(v, p, out), back);
+}
+
+// Vectors of one run to an archive.
+#[no_mangle]
+pub extern "C" fn blathersike_write_archive(
+    leaves: usize,
+    entries: &[u16],
+    out: &mut [u8],
+    back: &mut [u64; 2],
+)
+    ensures { λ r. ⌜ Hands (write-archive-call leaves (now (entries .entry))) (now (out .entry)) (now (back .exit)) (now (out .exit)) ⌝ }
+{
+    hand_back(trees::write_archive(leaves, entries, out), back);
+}
+
+// A tree of an archive to its vector.
+#[no_mangle]
+pub extern "C" fn blathersike_read_tree(
+    archive: &[u8],
+    tree: usize,
+    out: &mut [u16],
+    back: &mut [u64; 2],
+)
+    ensures { λ r. ⌜ Hands (read-tree-call (now (archive .entry)) tree) (now (out .entry)) (now (back .exit)) (now (out .exit)) ⌝ }
+{
+    hand_back(trees::read_tree(archive, tree, out), back);
+}
+
+// The part of an archive that is the record of a tree: where it starts, and how many bytes it has.
+#[no_mangle]
+pub extern "C" fn blathersike_view(archive: &[u8], tree: usize, part: &mut [u64; 2])
+    ensures { λ r. ⌜ now (part .exit) ≡ partOf (now (archive .entry)) tree .0 ∷ partOf (now (archive .entry)) tree .1 ∷ [] ⌝ }
+{
+    let found = trees::part(archive, tree);
+    *part = [found.start as u64, found.length as u64];
 }

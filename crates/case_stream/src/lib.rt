@@ -39,8 +39,8 @@ fn value(xs: &[u8]) -> u64 {
     x
 }
 
-// A leaf count. Where the input ends it is any number, and the list that follows is not whole.
-pub fn leaves() -> usize {
+// A leaf count, or the number of a tree. Where the input ends it is any number, and what follows is not whole.
+pub fn long_number() -> usize {
     let mut eight = [0u8; 8];
     read(&mut eight);
     value(&eight) as usize

@@ -11,21 +11,20 @@ use Rattle.record_laws.specs.Number.{field-joined}
 use Rattle.record_laws.specs.Width.{width-most, total-suc, total-mono}
 use Rattle.record_laws.specs.Fields.{Fit, fields-take}
 use Rattle.four_entries.specs.Four.{fourOf}
-use Rattle.bit_writer.specs.Pending.{Put}
+use Rattle.bit_writer.specs.Pending.{Room, Put}
 use Rattle.bit_writer.specs.declared.Pending.{Pending}
 use Rattle.runs.specs.Runs.{Run}
 use Rattle.entry_writer.specs.Entries.{PutEntries, Due}
 use Rattle.runs.proofs.Runs.{run-four, run-wide, total-four}
 
 pub put-then : {v : List ℕ} {i m end : ℕ} {p q r : Pending} {a b d : List ℕ} → PutEntries v i m p a q b → PutEntries v m end q b r d → PutEntries v i end p a r d
-put-then f g = record { below = g .below; count = omega (arith, f .count, g .count); held = λ front h. g .held front (f .held front h) }
+put-then f g = record { count = omega (arith, f .count, g .count); held = λ front h. g .held front (f .held front h) }
 
 -- a field more, whose bits are those of the entries from i to m
 put-more : {v : List ℕ} {i : ℕ} {p r : Pending} {a b : List ℕ} (m w x : ℕ) → Put p w x a r b → total m ≡ total i + w
     → fields 0 (take m v) ≡ fields 0 (take i v) ++ field w x → PutEntries v i m p a r b
 put-more {v} {i} m w x put e f =
     record {
-      below = put .below;
       count = omega (arith, put .count);
       held = λ front h. rw (f, ← append-assoc front (fields 0 (take i v)) (field w x)) (put .held (front ++ fields 0 (take i v)) h);
     }
@@ -70,7 +69,7 @@ due-fewer {end = end} m d a b =
       whole = omega (arith, d .whole);
       few = d .few;
       fit = d .fit;
-      below = d .below;
+      short = d .short;
       fits = omega (arith, d .fits, total-mono m end b);
     }
 
@@ -82,7 +81,7 @@ pub record Ahead (v : List ℕ) (i₀ end : ℕ) (out₀ : List ℕ) (p₀ : Pen
   pub put : PutEntries v i₀ i p₀ out₀ p out
 
 pub ahead-start : {v : List ℕ} {i end : ℕ} {p : Pending} {out : List ℕ} → Due v i end p (length out) → Ahead v i end out p out p i
-ahead-start d = record { same = refl; since = omega arith; due = d; put = record { below = d .below; count = refl; held = λ front h. h } }
+ahead-start d = record { same = refl; since = omega arith; due = d; put = record { count = refl; held = λ front h. h } }
 
 module _ {v : List ℕ} {i₀ end : ℕ} {out₀ : List ℕ} {p₀ : Pending} {out : List ℕ} {p : Pending} {i : ℕ} (o : Ahead v i₀ end out₀ p₀ out p i) where
   -- fewer entries are due
@@ -97,16 +96,16 @@ module _ {v : List ℕ} {i₀ end : ℕ} {out₀ : List ℕ} {p₀ : Pending} {o
       record {
         same = e ∙ o .same;
         since = omega (arith, o .since);
-        due = record { some-put = omega (arith, d .some-put); most = b; whole = d .whole; few = d .few; fit = d .fit; below = put .below; fits = omega (arith, d .fits, put .count) };
+        due = record { some-put = omega (arith, d .some-put); most = b; whole = d .whole; few = d .few; fit = d .fit; fits = omega (arith, d .fits, put .count); short = d .short };
         put = put-then (o .put) put;
       }
 
   -- there is room for a word
-  pub ahead-room : i ≤ end → p .at + 8 ≤ length out
-  ahead-room h = omega (arith, o .due .fits, o .same, total-mono i end h)
+  pub ahead-room : i ≤ end → Room p (length out)
+  ahead-room h = (omega (arith, o .due .fits, o .same, total-mono i end h), omega (arith, o .due .short, o .same))
 
   module _ (h : i < end) where
-    pub ahead-fits : (width i ≤ 11) × (getD v i 0 < 2 ^ width i) × (p .at + 8 ≤ length out)
+    pub ahead-fits : (width i ≤ 11) × (getD v i 0 < 2 ^ width i) × Room p (length out)
     unfolding Fit
     ahead-fits = (width-most i (omega (arith, o .due .whole, o .due .few)), o .due .fit i (omega (arith, o .due .whole)), ahead-room (omega arith))
 
@@ -138,7 +137,7 @@ module _ {v : List ℕ} {i₀ end : ℕ} {out₀ : List ℕ} {w : ℕ} {p₀ : P
   along-wide = run-wide w (r .run) (omega (arith, r .ahead .since, r .ahead .due .whole, r .ahead .due .few)) (r .wide)
 
   -- the next four entries fit
-  pub along-fits : (i + 4 ≤ length v) × ((j : ℕ) → i ≤ j → j < i + 4 → getD v j 0 < 2 ^ w) × (p .at + 8 ≤ length out)
+  pub along-fits : (i + 4 ≤ length v) × ((j : ℕ) → i ≤ j → j < i + 4 → getD v j 0 < 2 ^ w) × Room p (length out)
   along-fits = (inside, small v i w inside (next .1) (r .ahead .due .fit), ahead-room (r .ahead) (omega arith))
 
   pub along-next : (q : Pending) (after : List ℕ) → length after ≡ length out → Put p (4 * w) (fourOf v i w) out q after → Along v i₀ end out₀ w p₀ after q (i + 4)

@@ -32,6 +32,8 @@ fn vectors(v: &mut [u16])
     let mut left: u32 = 945;
     while 0 < left {
         call_lines::there_and_back(v);
+        call_lines::by_archive(v);
+        call_lines::shuffle(v);
         if !next(v) {
             return;
         }

@@ -1,38 +1,35 @@
--- The count, the entries and the padding behind them, in one row of bits.
--- Main results: count-inside, padding-behind, all-read.
-use mathlib.Core.Path.{_≡_, ap, subst, _∙_}
+-- The entries and the padding behind them, in one row of bits.
+-- Main results: padding-behind, all-read.
+use mathlib.Core.Path.{_≡_, ap, _∙_}
 use mathlib.Core.List.{List}
-use Prim.Native.Nat.{ℕ, _+_, _-_, _≤_, _<_}
-use native.Mathlib.Omega.{arith}
+use Prim.Native.Nat.{ℕ, _+_, _-_, _<_}
 use denote.Ref.{RefT, now}
-use lib.ListN.{length, getD}
+use lib.ListN.{length, take, getD}
 use lib.Seq.{getD-set-same}
 use Rattle.rules.specs.Record.{total}
-use Rattle.record_laws.specs.Width.{total-mono, total-one}
+use Rattle.rules.specs.Archive.{fieldBits}
+use Rattle.record_laws.specs.Width.{total-one}
 use Rattle.record_laws.specs.Window.{valueAt}
+use Rattle.record_laws.specs.Fields.{entriesFrom}
 use Rattle.bits.specs.Fields.{fieldRead, FieldInside}
 use Rattle.bit_reader.specs.declared.Reader.{Reader}
 use Rattle.entry_reader.specs.Reading.{Reading, Read}
 
--- the entries of a record end where its padding starts
-pub entries-end : (n : ℕ) → 1 ≤ n → 11 + (total n - total 1) ≡ total n
-entries-end n h = omega (arith, total-one, total-mono 1 n h)
+-- the fields end where the padding starts
+fields-end : (start n : ℕ) → start + (total n - total 1) ≡ start + fieldBits n
+unfolding fieldBits
+fields-end start n = rw total-one
 
-module _ (s : List ℕ) (p room n : ℕ) (l : 1 ≤ n) (f : FieldInside s (total n) p room 0) where
-  -- where the padding lies within the bytes, so does the count
-  pub count-inside : FieldInside s 0 11 room 0
-  count-inside = (omega arith, omega (arith, f .1, total-one, total-mono 1 n l), omega arith, f .3)
+-- so the padding lies within the bytes behind the entries
+pub padding-behind : (s : List ℕ) (start n p room : ℕ) → FieldInside s (start + fieldBits n) p room 0 → FieldInside s (start + (total n - total 1)) p room 0
+padding-behind s start n p room f = rw (fields-end start n) f
 
-  -- and the padding does behind the entries, too
-  pub padding-behind : (other : List ℕ) → length other ≡ room → FieldInside s (11 + (total n - total 1)) p (length other) 0
-  padding-behind other e = rw (entries-end n l, e) f
-
--- all entries of a record are read, and its padding
-pub all-read : (x : RefT (List ℕ)) (n p : ℕ) (other : List ℕ) {before after rest : List ℕ} {q : Reader} → 1 ≤ n → 0 < length other → Reading (now x) 11 11 1 before
-    → Read (record { bytes = x; at = 11 }) 1 n before q after → rest ≡ fieldRead (now x) (11 + (total n - total 1)) p other 0
-    → Reading (now x) 11 (total n) n after × (getD rest 0 0 ≡ valueAt (now x) (total n) p)
+-- all entries are read, and the padding
+pub all-read : (x : RefT (List ℕ)) (start n p : ℕ) (other : List ℕ) {before after rest : List ℕ} {q : Reader} → 0 < length other → Reading (now x) start start 1 before
+    → Read (record { bytes = x; at = start }) 1 n before q after → rest ≡ fieldRead (now x) (start + (total n - total 1)) p other 0
+    → (take n after ≡ entriesFrom start n (now x)) × (getD rest 0 0 ≡ valueAt (now x) (start + fieldBits n) p)
 unfolding fieldRead
-all-read x n p other {after = after} l h start r e = (
-  subst (λ (m : ℕ). Reading (now x) 11 m n after) (ap (λ (d : Reader). d .at) (r .moved) ∙ entries-end n l) (r .reads 11 start),
-  ap (λ (o : List ℕ). getD o 0 0) e ∙ getD-set-same other 0 (valueAt (now x) (11 + (total n - total 1)) p) 0 h ∙ ap (λ (m : ℕ). valueAt (now x) m p) (entries-end n l),
+all-read x start n p other h begun r e = (
+  r .reads start begun .done,
+  ap (λ (o : List ℕ). getD o 0 0) e ∙ getD-set-same other 0 (valueAt (now x) (start + (total n - total 1)) p) 0 h ∙ ap (λ (m : ℕ). valueAt (now x) m p) (fields-end start n),
 )

@@ -1,8 +1,10 @@
-// The fields of a record, read by one reading position from the first bit to the last.
+// The fields of entries and the padding behind them, read by one reading position from the first bit to the last.
 ghost use mathlib.Core.Path.{_≡_};
-ghost use lib.ListN.{length, getD};
-ghost use Rattle.rules.specs.Record.{total};
+ghost use Prim.Native.Nat.{_+_};
+ghost use lib.ListN.{length, take, getD};
+ghost use Rattle.rules.specs.Archive.{fieldBits};
 ghost use Rattle.record_laws.specs.Window.{valueAt};
+ghost use Rattle.record_laws.specs.Fields.{entriesFrom};
 ghost use Rattle.bits.specs.Fields.{FieldInside};
 ghost use Rattle.entry_reader.specs.Reading.{Left, Read, Reading};
 ghost use Rattle.fields.specs.Parts.{Parts};
@@ -24,10 +26,11 @@ fn read_entries<'a>(
     entry_reader::read_singles(rest, last, n, out)
 }
 
-/// Reads a record by one reading position, from its first bit to its last: the count and, behind the entries, the padding into place 0 of
-/// `other`. The contract says nothing of the position, so who calls it needs no walk by hand.
+/// Reads the fields that start at a bit by one reading position, and the padding behind them into place 0 of `other`. The contract says
+/// nothing of the position, so who calls it needs no walk by hand.
 pub fn read_fields(
     s: &[u8],
+    start: usize,
     first: usize,
     last: usize,
     n: usize,
@@ -35,10 +38,9 @@ pub fn read_fields(
     out: &mut [u16],
     other: &mut [u16],
 )
-    requires { ⌜ (Left (now s) 11 1 n 0 (length (now out)) × Parts first last n × Reading (now s) 11 11 1 (now out)) × FieldInside (now s) (total n) padding (length (now other)) 0 ⌝ }
-    ensures { λ _. ⌜ Reading (now (s .entry)) 11 (total n) n (now (out .exit)) × (getD (now (other .exit)) 0 0 ≡ valueAt (now (s .entry)) (total n) padding) ⌝ }
+    requires { ⌜ (Left (now s) start 1 n 0 (length (now out)) × Parts first last n × Reading (now s) start start 1 (now out)) × FieldInside (now s) (start + fieldBits n) padding (length (now other)) 0 ⌝ }
+    ensures { λ _. ⌜ (take n (now (out .exit)) ≡ entriesFrom start n (now (s .entry))) × (getD (now (other .exit)) 0 0 ≡ valueAt (now (s .entry)) (start + fieldBits n) padding) ⌝ }
 {
-    let entries = bit_reader::next_field(bit_reader::reading(s), lengths::COUNT_BITS, other, 0);
-    let rest = read_entries(entries, first, last, n, out);
+    let rest = read_entries(bit_reader::reading(s, start), first, last, n, out);
     bit_reader::next_field(rest, padding, other, 0);
 }

@@ -3,6 +3,7 @@ ghost use mathlib.Core.Path.{_≡_};
 ghost use Prim.Native.Nat.{_≤_};
 ghost use lib.ListN.{length};
 ghost use Rattle.rules.specs.Record.{total, recordLength, leafCount};
+ghost use Rattle.rules.specs.Archive.{fieldBits};
 
 pub mod totals;
 
@@ -15,6 +16,14 @@ pub fn bits_before(n: usize) -> usize
     ensures { λ r. ⌜ r ≡ total n ⌝ }
 {
     numbers::wide(totals::TOTALS[n - 1])
+}
+
+/// The bits of the fields of n entries: L(n) without those of the leaf count.
+pub fn field_bits(n: usize) -> usize
+    requires { ⌜ (1 ≤ n) × (n ≤ 1024) ⌝ }
+    ensures { λ r. ⌜ r ≡ fieldBits n ⌝ }
+{
+    bits_before(n) - COUNT_BITS as usize
 }
 
 /// The bytes of a record of n leaves.

@@ -1,28 +1,21 @@
--- The count and the entries behind it are the record.
--- Main definitions: builtBytes, Packed. Main results: entries-due, packed.
+-- Some bits and the fields of a vector behind them, as they are built.
+-- Main definition: Built. Main results: entries-due, built.
 use mathlib.Core.Path.{_≡_, refl, sym, ap, _∙_}
 use mathlib.Core.List.{List, [], _∷_, _++_, append-nil}
-use Prim.Native.Nat.{ℕ, suc, _+_, _/_, _≤_}
+use Prim.Native.Nat.{ℕ, _+_, _/_, _≤_}
 use native.Mathlib.Omega.{arith}
 use lib.ListN.{length, take, replicate}
 use lib.Seq.{take-length, take-take}
-use Rattle.rules.specs.Vector.{Valid}
-use Rattle.rules.specs.Record.{width, total, recordLength, field, fields, number, bytesOf, recordOf}
-use Rattle.record_laws.specs.Number.{AreBits}
+use Rattle.rules.specs.Record.{width, total, field, fields}
+use Rattle.rules.specs.Archive.{fieldBits}
 use Rattle.record_laws.specs.Bytes.{bytes-take}
 use Rattle.record_laws.specs.Width.{total-one, total-most}
-use Rattle.record_laws.specs.Inverse.{valid-fit, row-length}
-use Rattle.bit_writer.specs.Pending.{HoldsBits, Put}
+use Rattle.record_laws.specs.Fields.{total-header}
+use Rattle.record_laws.specs.Inverse.{valid-fit}
+use Rattle.bit_writer.specs.Pending.{Held, Put, held-nothing}
 use Rattle.bit_writer.specs.declared.Pending.{Pending}
 use Rattle.entry_writer.specs.Entries.{PutEntries, Due}
-
--- nothing is held
-abbrev nothing : Pending
-nothing = record { acc = 0; have = 0; at = 0 }
-
-held-nothing : (k : ℕ) → HoldsBits [] 0 0 0 (replicate (suc k) 0)
-unfolding AreBits bytesOf number
-held-nothing k = record { are = tt; count = refl; value = refl; stored = refl }
+use Rattle.packing.specs.Behind.{bytesBehind, packedBehind, Fits}
 
 -- entry 0 has no bits
 first-fields : (v : List ℕ) → 1 ≤ length v → fields 0 (take 1 v) ≡ []
@@ -34,37 +27,43 @@ first-fields (x ∷ v) h = refl
 abbrev pub builtBytes : ℕ
 builtBytes = 1288
 
--- what is held in the bytes b is the record of v
-abbrev pub Packed : List ℕ → Pending → List ℕ → Type 0
-Packed v q b = (q .at + (q .have + 7) / 8 ≡ recordLength (length v)) × (take (recordLength (length v)) b ≡ recordOf v)
+-- what is held in the bytes b is what is to be written
+abbrev pub Built : ℕ → ℕ → List ℕ → Pending → List ℕ → Type 0
+Built w x v q b =
+    ((q .bits + 7) / 8 ≡ bytesBehind w (length v)) × (bytesBehind w (length v) ≤ builtBytes) × (take (bytesBehind w (length v)) b ≡ packedBehind w x v)
 
-module _ (v : List ℕ) (p : Pending) (a : List ℕ) (count : Put nothing 11 (length v) (replicate builtBytes 0) p a) where
-  -- there is room for the entries of a valid vector
-  pub entries-due : Valid v → length v ≤ 1024 → length a ≡ builtBytes → Due v 1 (length v) p (length a)
-  entries-due valid few e =
+module _ {w x : ℕ} {v : List ℕ} {room : ℕ} (fit : Fits w x v room) {z p : Pending} {a : List ℕ} (none : z .bits ≡ 0) (front : Put z w x (replicate builtBytes 0) p a) where
+  -- there is room for the entries
+  pub entries-due : length a ≡ builtBytes → Due v 1 (length v) p (length a)
+  entries-due e =
       record {
         some-put = omega arith;
-        most = valid .some-leaf;
+        most = fit .vector .valid .some-leaf;
         whole = omega arith;
-        few = few;
-        fit = valid-fit v valid;
-        below = count .below;
-        fits = rw total-one (omega (arith, count .count, total-most (length v) few));
+        few = fit .vector .few;
+        fit = valid-fit v (fit .vector .valid);
+        fits = rw total-one (omega (arith, front .count, none, fit .few, total-most (length v) (fit .vector .few)));
+        short = omega arith;
       }
 
-  pub packed : (q : Pending) (b : List ℕ) → 1 ≤ length v → PutEntries v 1 (length v) p a q b → Packed v q b
-  unfolding recordOf recordLength
-  packed q b h entries = (
-    omega (arith, held .count, row-length v),
-    sym (take-take ((total (length v) + 7) / 8) (q .at + 1) b l)
-        ∙ ap (take ((total (length v) + 7) / 8)) (held .stored)
-        ∙ bytes-take ((total (length v) + 7) / 8) (q .at + 1) (field 11 (length v) ++ fields 0 v) l,
+  pub built : {q : Pending} {b : List ℕ} → PutEntries v 1 (length v) p a q b → Built w x v q b
+  unfolding bytesBehind packedBehind fieldBits
+  built {q} {b} entries = (
+    omega (arith, bits, total-header (length v)),
+    omega (arith, fit .few, total-most (length v) (fit .vector .few)),
+    sym (take-take (bytesBehind w (length v)) (q .bits / 8 + 1) b l)
+        ∙ ap (take (bytesBehind w (length v))) (held .stored)
+        ∙ bytes-take (bytesBehind w (length v)) (q .bits / 8 + 1) (field w x ++ fields 0 v) l,
   )
     where
-      held : HoldsBits (field 11 (length v) ++ fields 0 v) (q .acc) (q .have) (q .at) b
+      bits : q .bits + 11 ≡ w + total (length v)
+      bits = omega (arith, rw total-one at (entries .count), front .count, none)
+
+      held : Held (field w x ++ fields 0 v) q b
       held =
           rw (take-length v) at
-          (entries .held (field 11 (length v)) (rw (first-fields v h, append-nil (field 11 (length v))) (count .held [] (held-nothing 1287))))
+          (entries .held (field w x)
+          (rw (first-fields v (fit .vector .valid .some-leaf), append-nil (field w x)) (front .held [] (held-nothing z (replicate builtBytes 0) none refl))))
 
-      l : (total (length v) + 7) / 8 ≤ q .at + 1
-      l = omega (arith, held .count, row-length v, entries .below)
+      l : bytesBehind w (length v) ≤ q .bits / 8 + 1
+      l = omega (arith, bits, total-header (length v))

@@ -3,6 +3,7 @@
 fn sample(v: &[u16]) {
     call_lines::check(v);
     call_lines::there_and_back(v);
+    call_lines::shuffle(v);
 }
 
 fn samples() {
@@ -56,6 +57,47 @@ fn refused_texts() {
     call_lines::from_newick(b"5;");
 }
 
+// The trees 0,0,1,4 and 0,0,2,1; no tree; three trees of one leaf.
+fn archives() {
+    let mut archive = [0u8; 6];
+    let two = call_lines::write_archive(4, &[0, 0, 1, 4, 0, 0, 2, 1], &mut archive);
+    read_and_view(&archive[..two], 0);
+    read_and_view(&archive[..two], 1);
+    read_and_view(&archive[..two], 2);
+    let none = call_lines::write_archive(4, &[], &mut archive);
+    read_and_view(&archive[..none], 0);
+    let three = call_lines::write_archive(1, &[0, 0, 0], &mut archive);
+    read_and_view(&archive[..three], 2);
+    call_lines::read_tree(&archive[..three], 3);
+}
+
+fn read_and_view(archive: &[u8], tree: usize) {
+    call_lines::read_tree(archive, tree);
+    call_lines::view(archive, tree);
+}
+
+fn refused_lists() {
+    let mut archive = [0u8; 6];
+    call_lines::write_archive(0, &[], &mut archive);
+    call_lines::write_archive(1025, &[], &mut archive);
+    call_lines::write_archive(4, &[0, 0, 1], &mut archive);
+    call_lines::write_archive(4, &[0, 0, 1, 4, 0, 0, 2, 5], &mut archive);
+}
+
+// Too short, cut, too long, too many leaves, none; what is wrong in another tree, or in this one; and as many trees as there can be.
+fn damaged_archives() {
+    call_lines::read_tree(&[0x00, 0x80, 0x00], 0);
+    call_lines::read_tree(&[0x00, 0x80, 0x00, 0x02, 0x60], 0);
+    call_lines::read_tree(&[0x00, 0x80, 0x00, 0x02, 0x60, 0x88, 0x00], 0);
+    call_lines::read_tree(&[0xFF, 0xE0, 0x00, 0x02, 0x60, 0x88], 0);
+    call_lines::read_tree(&[0x00, 0x00, 0x00, 0x02, 0x60, 0x88], 0);
+    call_lines::read_tree(&[0x00, 0x80, 0x00, 0x02, 0x60, 0xA8], 0);
+    call_lines::read_tree(&[0x00, 0x80, 0x00, 0x02, 0x60, 0xA8], 1);
+    call_lines::read_tree(&[0x00, 0x80, 0x00, 0x02, 0x60, 0x89], 1);
+    call_lines::read_tree(&[0x00, 0x3F, 0xFF, 0xFF], 2097150);
+    call_lines::read_tree(&[0x00, 0x3F, 0xFF, 0xFF], 2097151);
+}
+
 fn main() {
     samples();
     call_lines::from_table(4, &[1, 0, 4, 3, 2, 5, 5, 4, 6]);
@@ -63,4 +105,7 @@ fn main() {
     refused_vectors();
     refused_texts();
     call_lines::unpack(&[0x00, 0x41]);
+    archives();
+    refused_lists();
+    damaged_archives();
 }

@@ -1,8 +1,12 @@
 // The tie between the demands and the functions: each public function, and each C function, under the promise that the theorems of
 // `demands` are about. A function whose contract promises less leaves its line here unproved. There is no proof file: both say the same.
 use rules::Answer;
+use rules::Part;
 ghost use Rattle.rules.specs.Coded.{Hands};
-ghost use Rattle.demands.specs.Calls.{checks, to-table, from-table, to-newick, from-newick, packs, unpacks, shuffles, relabels, the, Kept};
+ghost use mathlib.Core.List.{[], _∷_};
+ghost use mathlib.Core.Path.{_≡_};
+ghost use Rattle.rules.specs.CallView.{partOf, view};
+ghost use Rattle.demands.specs.Calls.{checks, to-table, from-table, to-newick, from-newick, packs, unpacks, shuffles, relabels, writes-archive, reads-tree, the, Kept};
 
 pub fn check(v: &[u16]) -> Answer
     ensures { λ r. ⌜ Kept (checks (now (v .entry))) tt r tt ⌝ }
@@ -58,6 +62,30 @@ pub fn relabel(v: &[u16], p: &[u16], out: &mut [u16]) -> Answer
     trees::relabel(v, p, out)
 }
 
+pub fn write_archive(leaves: usize, entries: &[u16], out: &mut [u8]) -> Answer
+    ensures { λ r. ⌜ Kept (writes-archive leaves (now (entries .entry))) (now (out .entry)) r (now (out .exit)) ⌝ }
+{
+    trees::write_archive(leaves, entries, out)
+}
+
+pub fn read_tree(archive: &[u8], tree: usize, out: &mut [u16]) -> Answer
+    ensures { λ r. ⌜ Kept (reads-tree (now (archive .entry)) tree) (now (out .entry)) r (now (out .exit)) ⌝ }
+{
+    trees::read_tree(archive, tree, out)
+}
+
+pub fn view<'a>(archive: &'a [u8], tree: usize) -> &'a [u8]
+    ensures { λ r. ⌜ now r ≡ view (now (archive .entry)) tree ⌝ }
+{
+    trees::view(archive, tree)
+}
+
+pub fn part(archive: &[u8], tree: usize) -> Part
+    ensures { λ r. ⌜ (r .start ≡ partOf (now (archive .entry)) tree .0) × (r .length ≡ partOf (now (archive .entry)) tree .1) ⌝ }
+{
+    trees::part(archive, tree)
+}
+
 pub fn c_check(v: &[u16], back: &mut [u64; 2])
     ensures { λ r. ⌜ Hands (the (checks (now (v .entry))) .call) tt (now (back .exit)) tt ⌝ }
 {
@@ -110,4 +138,22 @@ pub fn c_relabel(v: &[u16], p: &[u16], out: &mut [u16], back: &mut [u64; 2])
     ensures { λ r. ⌜ Hands (the (relabels (now (v .entry)) (now (p .entry))) .call) (now (out .entry)) (now (back .exit)) (now (out .exit)) ⌝ }
 {
     capi::blathersike_relabel(v, p, out, back);
+}
+
+pub fn c_write_archive(leaves: usize, entries: &[u16], out: &mut [u8], back: &mut [u64; 2])
+    ensures { λ r. ⌜ Hands (the (writes-archive leaves (now (entries .entry))) .call) (now (out .entry)) (now (back .exit)) (now (out .exit)) ⌝ }
+{
+    capi::blathersike_write_archive(leaves, entries, out, back);
+}
+
+pub fn c_read_tree(archive: &[u8], tree: usize, out: &mut [u16], back: &mut [u64; 2])
+    ensures { λ r. ⌜ Hands (the (reads-tree (now (archive .entry)) tree) .call) (now (out .entry)) (now (back .exit)) (now (out .exit)) ⌝ }
+{
+    capi::blathersike_read_tree(archive, tree, out, back);
+}
+
+pub fn c_view(archive: &[u8], tree: usize, part: &mut [u64; 2])
+    ensures { λ r. ⌜ now (part .exit) ≡ partOf (now (archive .entry)) tree .0 ∷ partOf (now (archive .entry)) tree .1 ∷ [] ⌝ }
+{
+    capi::blathersike_view(archive, tree, part);
 }

@@ -28,3 +28,14 @@ pub use label_calls::shuffle;
 
 // relabel(v, p, out): the vector of the tree with leaf x relabelled p(x): 1, 4, 2, 11, 3.
 pub use label_calls::relabel;
+
+// write_archive(leaves, entries, out): the vectors of one run, one after another in one list, to an archive: 1, 21, 2, 4, 3.
+pub use archive_calls::write_archive;
+
+// read_tree(archive, tree, out): a tree of an archive to its vector: 2 (under 4 bytes), 1, 2 (not the implied length), 12, 4, 10, 3.
+pub use archive_calls::read_tree;
+
+// part(archive, tree), view(archive, tree): the part of an archive that is the record of a tree, by its place and as bytes; empty where
+// read_tree gives 1, 2 or 12.
+pub use archive_calls::part;
+pub use archive_calls::view;

@@ -1,19 +1,25 @@
 -- What a record gives, by what the public call makes of it.
--- Main definition: Unpacks. Main results: length-wrong, head-right; entry-above, padding-set, entries-right.
-use mathlib.Core.Bool.{true, false}
+-- Main definition: Unpacks. Main results: length-wrong, head-right; headed-filled, entry-above, padding-set, entries-right.
+use mathlib.Core.Bool.{true}
 use mathlib.Core.List.{List}
 use mathlib.Core.Logic.{_≢_}
 use mathlib.Core.Option.{none, some}
 use mathlib.Core.Path.{_≡_, sym, ap, _∙_}
-use Prim.Native.Nat.{ℕ, _-_, _≤_, _<_}
+use Prim.Native.Nat.{ℕ, _+_, _-_, _≤_}
 use native.Mathlib.Omega.{arith}
-use lib.ListN.{length, take, length-take}
+use lib.ListN.{length, take, drop}
 use Rattle.rules.specs.Vector.{fault}
-use Rattle.rules.specs.Record.{leafCount, recordLength, entriesOf, padding, anySet}
+use Rattle.rules.specs.Record.{leafCount, recordLength, bitsOf, entriesIn, entriesOf, paddingIn, anySet}
+use Rattle.rules.specs.Archive.{fieldBits}
 use Rattle.rules.specs.Answer.{made, refuses}
-use Rattle.rules.specs.CallUnpack.{unpack}
-use Rattle.record_laws.specs.FromRecord.{Headed, length-entries, wrong-record, entry-refused, padding-refused, record-accepted}
-use Rattle.vector.specs.Fault.{firstFault, first-fault-some, first-fault-none}
+use Rattle.rules.specs.CallUnpack.{fromEntries, unpack}
+use Rattle.record_laws.specs.Fields.{entriesFrom, total-header, entries-from-header}
+use Rattle.record_laws.specs.Width.{record-length-bits}
+use Rattle.record_laws.specs.FromRecord.{Headed, headed, wrong-record}
+use Rattle.record.specs.Filled.{Filled}
+use Rattle.record_entries.specs.Contains.{Contains}
+use Rattle.record_entries.specs.Makes.{entry-made, padding-made, entries-made}
+use Rattle.record_entries.specs.declared.Contents.the-variants as contents
 use Rattle.unpacking.specs.declared.Unpacked.{Unpacked}
 use Rattle.unpacking.specs.declared.Unpacked.the-variants.{Entries, Length, LeafCount, Entry, Padding}
 
@@ -35,23 +41,33 @@ module _ (s : List ℕ) {n wanted : ℕ} (two-bytes : 2 ≤ length s) (count : n
   head-right e =
       record { two-bytes = two-bytes; count = count; some-leaf = omega (arith, some-leaf); few = few; whole = e ∙ long }
 
--- its entries were read into xs, and i is the first above its bound, or n
-module _ (s xs : List ℕ) {n i : ℕ} (H : Headed s n) (read : take n xs ≡ entriesOf n s) (first : i ≡ firstFault (take n xs)) where
-  same : i ≡ firstFault (entriesOf n s)
-  same = first ∙ ap firstFault read
+-- a record with the length that its n fixes: what its bytes contain from bit 11 on
+module _ (s : List ℕ) (n : ℕ) (H : Headed s n) where
+  pub headed-filled : Filled s 11 n
+  unfolding fieldBits
+  headed-filled =
+      let e = total-header n in
+      let k = record-length-bits n in
+      let w = H .whole in
+      record { some-leaf = H .some-leaf; few = H .few; near = omega arith; inside = omega arith; last = omega arith }
 
-  pub entry-above : i < n → unpack s ≡ refuses 4 i
-  entry-above h =
-      entry-refused s n i H (first-fault-some (entriesOf n s) (omega (arith, same, length-entries n s)) ∙ ap some (sym same))
+  entries : entriesFrom 11 n s ≡ entriesIn n (bitsOf s)
+  unfolding entriesOf
+  entries = entries-from-header n s
 
-  within : n ≤ i → fault 0 (entriesOf n s) ≡ none
-  within h = first-fault-none (entriesOf n s) (omega (arith, same, length-entries n s))
+  behind : drop (11 + fieldBits n) (bitsOf s) ≡ paddingIn n (bitsOf s)
+  unfolding fieldBits paddingIn
+  behind = ap (λ (k : ℕ). drop k (bitsOf s)) (total-header n)
 
-  pub padding-set : n ≤ i → anySet (padding n s) ≡ true → unpack s ≡ refuses 10 (length s - 1)
-  padding-set h b = padding-refused s n H (within h) b
+  pub entry-above : (i : ℕ) → fault 0 (entriesFrom 11 n s) ≡ some i → unpack s ≡ refuses 4 i
+  unfolding fromEntries
+  entry-above i h = headed s n H ∙ entry-made s 11 n (length s - 1) (bitsOf s) entries behind i h
 
-  pub entries-right : n ≤ i → anySet (padding n s) ≡ false → (n ≤ length xs) × (unpack s ≡ made (take n xs))
-  entries-right h b = (
-    omega (arith, length-take n xs, ap length read, length-entries n s),
-    record-accepted s n (record { headed = H; within = within h; unset = b }) ∙ ap made (sym read),
-  )
+  pub padding-set : (fault 0 (entriesFrom 11 n s) ≡ none) × (anySet (drop (11 + fieldBits n) (bitsOf s)) ≡ true) → unpack s ≡ refuses 10 (length s - 1)
+  unfolding fromEntries
+  padding-set h = headed s n H ∙ padding-made s 11 n (length s - 1) (bitsOf s) entries behind h
+
+  pub entries-right : (xs : List ℕ) → Contains s 11 n xs contents.Entries → (n ≤ length xs) × (unpack s ≡ made (take n xs))
+  unfolding fromEntries
+  entries-right xs h =
+      let made-so = entries-made s 11 n (length s - 1) (bitsOf s) entries behind xs h in (made-so .0, headed s n H ∙ made-so .1)

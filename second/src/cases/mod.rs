@@ -1,12 +1,18 @@
-//! The seeded cases of the program `calls`: all nine calls, with right inputs and
-//! with every kind of damage that 01's table of refusals tells of.
+//! The seeded cases of the program `calls`: all nine calls of 01, with right inputs
+//! and with every kind of damage that its table of refusals tells of. And those of
+//! the program `archive_cases`: the three calls of 02's archive, in the same way.
 //!
 //! A kind is a function that makes one input of its sort by chance. Each kind is
 //! used so many times with each call that takes it.
 
+pub mod archive_ends;
+pub mod archive_records;
+pub mod archives;
 pub mod chance;
+pub mod drafts;
 pub mod ends;
 pub mod listings;
+pub mod lists;
 pub mod permutations;
 pub mod records;
 pub mod rooms;
@@ -18,8 +24,9 @@ use crate::stream::Case;
 use chance::Chance;
 
 const SEED: u64 = 20_240_229;
+const SEED_OF_ARCHIVES: u64 = 20_240_301;
 
-/// The same cases at every run.
+/// The cases of `calls`, the same at every run.
 pub fn all() -> Vec<Case> {
     let mut chance = Chance::from_seed(SEED);
     let mut cases = Vec::new();
@@ -29,5 +36,16 @@ pub fn all() -> Vec<Case> {
     records::add(&mut cases, &mut chance);
     permutations::add(&mut cases, &mut chance);
     ends::add(&mut cases, &mut chance);
+    cases
+}
+
+/// The cases of `archive_cases`, the same at every run.
+pub fn of_archives() -> Vec<Case> {
+    let mut chance = Chance::from_seed(SEED_OF_ARCHIVES);
+    let mut cases = Vec::new();
+    lists::add(&mut cases, &mut chance);
+    archives::add(&mut cases, &mut chance);
+    archive_records::add(&mut cases, &mut chance);
+    archive_ends::add(&mut cases, &mut chance);
     cases
 }

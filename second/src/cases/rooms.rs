@@ -35,7 +35,12 @@ pub fn short(chance: &mut Chance, needed: usize) -> Lent {
     of_room(chance, room)
 }
 
-fn of_room(chance: &mut Chance, room: usize) -> Lent {
+/// A buffer cut down to what a stream can have.
+pub fn at_most(most: usize, lent: Lent) -> Lent {
+    Lent { room: lent.room.min(most), ..lent }
+}
+
+pub fn of_room(chance: &mut Chance, room: usize) -> Lent {
     Lent { room, seed: chance.word() }
 }
 

@@ -100,7 +100,7 @@ module _ {M : Type 1} (𝓤 : URA M) (H : Heap 𝓤) (A : Atoms 𝓤) (W : Given
         -- [what the buffer owns; what s owns, twice; _7; …; the tokens]
         move ! (19 ∷ []) $ split ! $ move ! (1 ∷ []) $ split ! $ move ! (1 ∷ []) $ drop ! $ move ! (1 ∷ 3 ∷ []) $
         -- [what `reading` asks; the other token; what the buffer owns; what s owns; _7; …]
-        starts ! fm mem run known-new κ q s (and-then ! (load ! (from ! (stop !)) (look ! 16 refl)) (no-more !)) (λ is.
+        starts ! fm mem run known-new κ q s 0 (lit< tt) (and-then ! (load ! (from ! (stop !)) (look ! 16 refl)) (and-then ! (lit ! tt) (no-more !))) (λ is.
         -- [what the position owns; its token; the other token; what the buffer owns; what s owns; _7; …]
         land ! (from ! (stop !)) (init ! 9 refl (typed κ s 0 is 𝓤 H A W erased)) $
         assigns ! (addr ! (from ! (fld ! refl (hop ! (look-in ! 13 (sub ! 0 refl (whole !))) (stop !))))) (from ! (stop !)) (init ! 7 refl (tt, tt)) $

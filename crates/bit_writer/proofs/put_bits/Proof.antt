@@ -1,12 +1,15 @@
--- `bit_writer::put_bits` meets its contract: the bits are pushed in from below, and all that is held is stored (`put-held`).
+-- `bit_writer::put_bits` meets its contract: the bits are pushed in from below, and all that is held is stored (`put-counted`).
 use native.Mathlib.Omega.{arith}
 use borrow.Author.Needs.{needs}
-use Rattle.bit_writer.proofs.Writing.{put-held}
+use Rattle.bit_writer.proofs.Writing.{put-counted}
 use Rattle.bit_writer.proofs.put_bits.Statement.{statement}
 use Rattle.bit_writer.proofs.put_bits.Tie as tie
 
 shl-acc : tie.Need-shl-acc
 shl-acc c = search needs
+
+cast-have : tie.Need-cast-have
+cast-have c = search needs
 
 add-have : tie.Need-add-have
 add-have c = search needs
@@ -23,23 +26,19 @@ shl-store-word c = search needs
 store-word-requires : tie.Need-store-word-requires
 store-word-requires c κs = search needs
 
-cast-t15 : tie.Need-cast-t15
-cast-t15 c = search needs
-
-add-t16 : tie.Need-add-t16
-add-t16 c = search needs
+add-t14 : tie.Need-add-t14
+add-t14 c = search needs
 
 same-length : tie.Need-same-length
 same-length c = search needs
 
 returns : tie.Need-returns
 returns c =
-    let a = c .before .before .before .before .before .before .before .args in
-    let p = a .p in
+    let stored = c .before .before .before in
+    let a = stored .before .before .before .before .before .before .args in
     record {
-      below = search needs;
       count = search needs;
-      held = λ bits r. rw (c .before .before .store-word .ensures) (put-held bits (p .acc) (p .have) (p .at) (a .out .now) (a .width) (a .x) r (omega arith) (omega arith) (omega arith));
+      held = λ bits r. rw (stored .store-word .ensures) (put-counted bits (a .p .acc) (a .p .bits) (a .out .now) (a .width) (a .x) r (omega arith) (omega arith) (omega arith));
     }
 
 pub put-bits-spec : {M : Type 1} → statement M
@@ -47,12 +46,12 @@ put-bits-spec =
     tie.close
     (tie.spec
     shl-acc
+    cast-have
     add-have
     sub-store-word
     cast-store-word
     shl-store-word
     store-word-requires
-    cast-t15
-    add-t16
+    add-t14
     same-length
     returns)

@@ -1,5 +1,6 @@
 -- `bit_writer::put_field` meets its contract: a field without bits changes nothing (`none-held`).
 use borrow.Author.Needs.{needs}
+use Prim.Native.Nat.{_/_, _%_}
 use Rattle.bit_writer.proofs.Writing.{none-held}
 use Rattle.bit_writer.proofs.put_field.Statement.{statement}
 use Rattle.bit_writer.proofs.put_field.Tie as tie
@@ -9,9 +10,8 @@ returns c =
     let a = c .before .before .args in
     let p = a .p in
     record {
-      below = search needs;
       count = search needs;
-      held = λ bits r. none-held bits (p .acc) (p .have) (p .at) (a .out .now) (a .width) (a .x) (c .if1 .taken) r;
+      held = λ bits r. none-held bits (p .acc) (p .bits % 8) (p .bits / 8) (a .out .now) (a .width) (a .x) (c .if1 .taken) r;
     }
 
 put-bits-requires : tie.Need-put-bits-requires

@@ -27,7 +27,7 @@ four-from-requires c κs = let f = along-fits (c .before .before .loop .inv) (c 
 put-bits-requires : tie.Need-put-bits-requires Inv-loop μ-loop
 put-bits-requires c κs =
     let w = along-wide (c .before .before .before .loop .inv) (c .before .before .loop-test .taken) in
-    (c .before .before .before .loop .inv .ahead .due .below, omega arith, omega arith, c .four-from .ensures .1, along-fits (c .before .before .before .loop .inv) (c .before .before .loop-test .taken) .2)
+    (omega arith, omega arith, c .four-from .ensures .1, along-fits (c .before .before .before .loop .inv) (c .before .before .loop-test .taken) .2)
 
 add-k : tie.Need-add-k Inv-loop μ-loop
 add-k c = search needs

@@ -30,7 +30,6 @@ long-requires c κs = search needs
 put-field-requires : tie.Need-put-field-requires Inv-loop μ-loop
 put-field-requires c κs =
     let f = ahead-fits (c .before .before .before .before .before .loop .inv) (c .before .before .before .before .loop-test .taken) in (
-      c .before .before .before .before .before .loop .inv .due .below,
       omega (arith, f .0, c .before .before .field-width .ensures),
       rw (c .long .ensures, c .before .before .field-width .ensures) (f .1),
       f .2,

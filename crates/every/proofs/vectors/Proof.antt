@@ -21,6 +21,12 @@ loop-holds c = search needs
 there-and-back-requires : tie.Need-there-and-back-requires Inv-loop μ-loop
 there-and-back-requires c κs = search needs
 
+by-archive-requires : tie.Need-by-archive-requires Inv-loop μ-loop
+by-archive-requires c κs = search needs
+
+shuffle-requires : tie.Need-shuffle-requires Inv-loop μ-loop
+shuffle-requires c κs = search needs
+
 next-requires : tie.Need-next-requires Inv-loop μ-loop
 next-requires c κs = search needs
 
@@ -53,6 +59,8 @@ vectors-spec =
     μ-loop
     loop-holds
     there-and-back-requires
+    by-archive-requires
+    shuffle-requires
     next-requires
     same-length
     returns

@@ -2,17 +2,12 @@
 use native.Mathlib.Omega.{arith}
 use borrow.Author.Needs.{needs}
 use mathlib.Core.Path.{_∙_}
-use Prim.Native.Nat.{_+_, _*_, _≤_, _^_}
-use lib.ListN.{length, length-set}
-use Rattle.rules.specs.Record.{total, padding}
-use Rattle.record_laws.specs.Fields.{entries-from-header}
-use Rattle.record.proofs.Whole.{record-bits, record-left, padding-inside, parts-of, reading-start, set-value}
+use Prim.Native.Nat.{_+_}
+use lib.ListN.{length-set}
+use Rattle.rules.specs.Archive.{fieldBits}
+use Rattle.record.proofs.Whole.{few-bytes, fields-left, padding-inside, parts-of, reading-start, set-value}
 use Rattle.record.proofs.read_record.Statement.{statement}
 use Rattle.record.proofs.read_record.Tie as tie
-
--- the record's length in bits
-bits : (c : tie.Start) → (length (c .args .s .now) ≤ 2 ^ 32) × (total (c .args .n) ≤ 8 * length (c .args .s .now)) × (8 * length (c .args .s .now) ≤ total (c .args .n) + 7)
-bits c = record-bits (c .args .s .now) (c .args .n) (c .pre .0) (c .pre .1) (c .pre .3)
 
 slice-write-out : tie.Need-slice-write-out
 slice-write-out c = search needs
@@ -24,16 +19,21 @@ fours-end-requires : tie.Need-fours-end-requires
 fours-end-requires c κs = search needs
 
 mul-width : tie.Need-mul-width
-mul-width c = let k = bits (c .before .before .before .before) in search needs
-
-bits-before-requires : tie.Need-bits-before-requires
-bits-before-requires c κs = search needs
+mul-width c =
+    let start = c .before .before .before .before in
+    let k = few-bytes (start .args .s .now) (start .args .start) (start .args .n) (start .pre .0) in search needs
 
 sub-width : tie.Need-sub-width
-sub-width c = let k = bits (c .before .before .before .before .before) in search needs
+sub-width c = search needs
+
+field-bits-requires : tie.Need-field-bits-requires
+field-bits-requires c κs = search needs
+
+sub-width-2 : tie.Need-sub-width-2
+sub-width-2 c = search needs
 
 cast-width : tie.Need-cast-width
-cast-width c = let k = bits (c .before .before .before .before .before) in search needs
+cast-width c = search needs
 
 slice-aggregate-read-fields : tie.Need-slice-aggregate-read-fields
 slice-aggregate-read-fields c = search needs
@@ -42,27 +42,28 @@ read-fields-requires : tie.Need-read-fields-requires
 read-fields-requires c κs =
     let start = c .before .before .before .before .before .before .before in
     let a = start .args in
-    let p = start .pre in (
+    let F = start .pre .0 in (
       (
-        record-left (a .s .now) (a .n) (p .0) (p .1) (p .3) _ (simp length-set (p .2)),
-        parts-of (a .n) (p .0) (c .before .before .before .before .lesser .ensures) (c .before .before .before .fours-end .ensures),
-        reading-start (a .s .now) 11 (a .out .now) (omega arith),
+        fields-left (a .s .now) (a .start) (a .n) F _ (simp length-set (start .pre .1)),
+        parts-of (a .n) (F .some-leaf) (c .before .before .before .before .lesser .ensures) (c .before .before .before .fours-end .ensures),
+        reading-start (a .s .now) (a .start) (a .out .now) (omega (arith, F .some-leaf)),
       ),
-      rw (c .before .before .bits-before .ensures) (padding-inside (a .s .now) (a .n) (p .0) (p .1) (p .3)),
+      rw (c .before .before .field-bits .ensures) (padding-inside (a .s .now) (a .start) (a .n) F),
     )
 
 array-read-result : tie.Need-array-read-result
 array-read-result c = search needs
 
 same-length : tie.Need-same-length
-same-length c = c .before .before .before .read-fields .kept .1 .1 .1 .1 .1 .0 ∙ simp length-set
+same-length c = c .before .before .before .read-fields .kept .1 .1 .1 .1 .1 .1 .0 ∙ simp length-set
 
 returns : tie.Need-returns
-unfolding padding
 returns c =
-    let a = c .before .before .before .before .before .before .before .before .before .before .before .args in
-    let e = c .before .before .before .read-fields .ensures in
-    (e .0 .done ∙ entries-from-header (a .n) (a .s .now), rw (e .1, c .before .before .before .before .before .before .bits-before .ensures) (set-value (a .s .now) (total (a .n))))
+    let read = c .before .before .before in
+    let bits = read .before .before .before in
+    let a = bits .before .before .before .before .before .args in
+    let e = read .read-fields .ensures in
+    (e .0, rw (e .1) (set-value (a .s .now) (a .start + fieldBits (a .n)) _ (omega (arith, bits .field-bits .ensures))))
 
 pub read-record-spec : {M : Type 1} → statement M
 read-record-spec =
@@ -72,8 +73,9 @@ read-record-spec =
     lesser-requires
     fours-end-requires
     mul-width
-    bits-before-requires
     sub-width
+    field-bits-requires
+    sub-width-2
     cast-width
     slice-aggregate-read-fields
     read-fields-requires

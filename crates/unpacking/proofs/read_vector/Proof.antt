@@ -35,8 +35,8 @@ returns-4 c =
     length-wrong _ (leaves .before .if1 .left) (leaves .leaf-count .ensures) (long .before .before .if2 .left) (long .before .if3 .left)
     (long .record-length .ensures) (c .if4 .taken)
 
-read-entries-requires : tie.Need-read-entries-requires
-read-entries-requires c κs =
+read-headed-requires : tie.Need-read-headed-requires
+read-headed-requires c κs =
     let test = c .before in
     let long = test .before in
     let leaves = count long in (
@@ -49,7 +49,7 @@ same-length : tie.Need-same-length
 same-length c = search needs
 
 returns-5 : tie.Need-returns-5
-returns-5 c = c .before .before .read-entries .ensures
+returns-5 c = c .before .before .read-headed .ensures
 
 pub read-vector-spec : {M : Type 1} → statement M
 read-vector-spec =
@@ -61,6 +61,6 @@ read-vector-spec =
     returns-3
     record-length-requires
     returns-4
-    read-entries-requires
+    read-headed-requires
     same-length
     returns-5)
