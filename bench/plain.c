@@ -334,10 +334,8 @@ static inline uint64_t four(const uint16_t *v, unsigned width) {
     return (((uint64_t)v[0] << width | v[1]) << width | v[2]) << width | v[3];
 }
 
-/* Built in an array of our own, since a flush writes a whole word. */
-size_t plain_pack(const uint16_t *v, size_t n, uint8_t *record) {
-    uint8_t built[RECORD + WORD];
-    struct writer w = {built, n, 11};
+/* Writes the fields behind the bits that are held, of which there is one with them at least, and returns where their bytes end. */
+static inline uint8_t *put_fields(struct writer w, const uint16_t *v, size_t n) {
     size_t i = 2;
     for (; i < n && i < 5; i++) put(&w, v[i], width_below_5(i));
     flush(&w);
@@ -349,8 +347,15 @@ size_t plain_pack(const uint16_t *v, size_t n, uint8_t *record) {
         }
     for (; i < n; i++) put(&w, v[i], width);
     w.bits <<= 8, w.held += 8; /* a byte of zeros, so that a byte begun becomes a whole one */
-    size_t length = (size_t)(w.at - built) + (w.held - 1) / 8;
+    uint8_t *end = w.at + (w.held - 1) / 8;
     flush(&w);
+    return end;
+}
+
+/* Built in an array of our own, since a flush writes a whole word. */
+size_t plain_pack(const uint16_t *v, size_t n, uint8_t *record) {
+    uint8_t built[RECORD + WORD];
+    size_t length = (size_t)(put_fields((struct writer){built, n, 11}, v, n) - built);
     memcpy(record, built, length);
     return length;
 }
@@ -373,11 +378,9 @@ static inline void take_four(uint16_t *v, uint64_t bits, unsigned width) {
     v[3] = turn(bits, width) & mask;
 }
 
-/* Read from an array of our own, since a read takes a whole word. */
-size_t plain_unpack(const uint8_t *record, size_t length, uint16_t *v) {
-    uint8_t lent[RECORD + WORD];
-    memcpy(lent, record, length);
-    size_t n = (size_t)record[0] << 3 | record[1] >> 5, place = 11, i = 2;
+/* Reads the fields from a place on. */
+static inline void take_fields(const uint8_t *lent, size_t place, size_t n, uint16_t *v) {
+    size_t i = 2;
     v[0] = 0;
     if (n > 1) v[1] = 0;
     for (; i < n && i < 5; place += width_below_5(i), i++)
@@ -387,6 +390,59 @@ size_t plain_unpack(const uint8_t *record, size_t length, uint16_t *v) {
         for (size_t end = fours_end(i, width, n); i < end; i += 4, place += 4 * width)
             take_four(v + i, bits_at(lent, place), width);
     for (; i < n; i++, place += width) v[i] = (uint16_t)(bits_at(lent, place) >> (64 - width));
+}
+
+/* Read from an array of our own, since a read takes a whole word. */
+size_t plain_unpack(const uint8_t *record, size_t length, uint16_t *v) {
+    uint8_t lent[RECORD + WORD];
+    memcpy(lent, record, length);
+    size_t n = (size_t)record[0] << 3 | record[1] >> 5;
+    take_fields(lent, 11, n, v);
+    return n;
+}
+
+/* ---- Archive ---- */
+
+#define HEADER 4
+
+/* The bytes of a record without its n, three leaves at least: fields of one width stand in runs. */
+static size_t bare_length(size_t n) {
+    size_t bits = n > 3 ? 2 + 3 : 2, i = 5;
+    if (n > 4) bits += 3;
+    for (unsigned width = 4; i < n; width++) {
+        size_t end = n < run_end(width) ? n : run_end(width);
+        bits += (end - i) * width, i = end;
+    }
+    return (bits + 7) / 8;
+}
+
+static void put_header(uint8_t *archive, size_t n, size_t trees) {
+    uint32_t word = __builtin_bswap32((uint32_t)(n << 21 | trees));
+    memcpy(archive, &word, HEADER);
+}
+
+/*
+ * Each record is written where it stands: what a flush writes too much the next record overwrites. Only the last ones are built
+ * in an array of our own, where a flush would pass the archive's end.
+ */
+size_t plain_write_archive(const uint16_t *entries, size_t n, size_t trees, uint8_t *archive) {
+    put_header(archive, n, trees);
+    if (n < 3) return HEADER;
+    size_t length = bare_length(n);
+    uint8_t *at = archive + HEADER, *end = at + trees * length;
+    for (; at < end; at += length, entries += n) {
+        uint8_t built[RECORD + WORD], *to = at + length + WORD <= end ? at : built;
+        put_fields((struct writer){to, 0, 0}, entries, n);
+        if (to == built) memcpy(at, built, length);
+    }
+    return HEADER + trees * length;
+}
+
+size_t plain_read_tree(const uint8_t *archive, size_t tree, uint16_t *v) {
+    uint8_t lent[RECORD + WORD];
+    size_t n = (size_t)archive[0] << 3 | archive[1] >> 5, length = n < 3 ? 0 : bare_length(n);
+    memcpy(lent, archive + HEADER + tree * length, length);
+    take_fields(lent, 0, n, v);
     return n;
 }
 

@@ -22,5 +22,7 @@ size_t plain_pack(const uint16_t *v, size_t n, uint8_t *record);
 size_t plain_unpack(const uint8_t *record, size_t length, uint16_t *v);
 size_t plain_shuffle(const uint16_t *v, size_t n, uint16_t *new_labels, uint16_t *out);
 size_t plain_relabel(const uint16_t *v, size_t n, const uint16_t *p, uint16_t *out);
+size_t plain_write_archive(const uint16_t *entries, size_t n, size_t trees, uint8_t *archive);
+size_t plain_read_tree(const uint8_t *archive, size_t tree, uint16_t *v);
 
 #endif

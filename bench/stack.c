@@ -36,8 +36,8 @@ static size_t taken(void (*call)(void)) {
 /* ---- The trees, and a text that breaks off at its deepest ---- */
 
 static uint16_t v[LEAVES], rows[3 * LEAVES], permutation[LEAVES], numbers[3 * LEAVES], labels[LEAVES];
-static uint8_t text[TEXT], record[RECORD], bytes[TEXT];
-static size_t rows_length, text_length, record_length;
+static uint8_t text[TEXT], record[RECORD], archive[4 + RECORD], bytes[TEXT];
+static size_t rows_length, text_length, record_length, archive_length;
 static uint64_t answer[2];
 
 static size_t any_entry(size_t i) { return (size_t)rand() % (2 * i - 1); }
@@ -62,6 +62,8 @@ static void make_tree(size_t (*entry)(size_t)) {
     text_length = written("to_newick");
     blathersike_pack(v, LEAVES, record, RECORD, answer);
     record_length = written("pack");
+    blathersike_write_archive(LEAVES, v, LEAVES, archive, sizeof archive, answer);
+    archive_length = written("write_archive");
 }
 
 /* ---- The calls ---- */
@@ -75,6 +77,9 @@ static void from_newick(void) { blathersike_from_newick(text, text_length, numbe
 static void pack(void) { blathersike_pack(v, LEAVES, bytes, TEXT, answer); }
 static void unpack(void) { blathersike_unpack(record, record_length, numbers, 3 * LEAVES, answer); }
 static void shuffle(void) { blathersike_shuffle(v, LEAVES, labels, LEAVES, numbers, 3 * LEAVES, answer); }
+static void write_archive(void) { blathersike_write_archive(LEAVES, v, LEAVES, bytes, TEXT, answer); }
+static void read_tree(void) { blathersike_read_tree(archive, archive_length, 0, numbers, 3 * LEAVES, answer); }
+static void view(void) { blathersike_view(archive, archive_length, 0, answer); }
 static void relabel(void) { blathersike_relabel(v, LEAVES, permutation, LEAVES, numbers, 3 * LEAVES, answer); }
 
 static struct {
@@ -84,7 +89,8 @@ static struct {
 } calls[] = {
     {"check", check, 0},             {"to_table", to_table, 0}, {"from_table", from_table, 0}, {"to_newick", to_newick, 0},
     {"from_newick", from_newick, 0}, {"pack", pack, 0},         {"unpack", unpack, 0},         {"shuffle", shuffle, 0},
-    {"relabel", relabel, 0},
+    {"relabel", relabel, 0},         {"write_archive", write_archive, 0},
+    {"read_tree", read_tree, 0},     {"view", view, 0},
 };
 
 static void try_all(void) {
@@ -99,6 +105,6 @@ int main(void) {
     for (size_t k = 0; k < sizeof kinds / sizeof *kinds; k++) make_tree(kinds[k]), try_all();
     memset(text, '(', text_length = TEXT);
     try_all();
-    for (size_t k = 0; k < sizeof calls / sizeof *calls; k++) printf("%-12s %7zu\n", calls[k].name, calls[k].most - least);
+    for (size_t k = 0; k < sizeof calls / sizeof *calls; k++) printf("%-14s %7zu\n", calls[k].name, calls[k].most - least);
     return 0;
 }
