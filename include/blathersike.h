@@ -18,8 +18,8 @@
  *
  * What the caller owes. A list is a pointer and its number of elements. It is the caller's, is only lent for the call, and
  * no call reads or writes beyond it. Every pointer is aligned for its elements (uint16_t: 2 bytes, uint64_t: 8) and is not
- * null; of an empty list it may be anything else. `answer` is not null, has room for two numbers, and overlaps no list. No
- * two lists that are lent to one call overlap, inputs and outputs alike.
+ * null; of an empty list it may be anything else. `answer`, and the view's `part`, is not null, has room for two numbers,
+ * and overlaps no list. No two lists that are lent to one call overlap, inputs and outputs alike.
  *
  * Stack. In bytes, at the deepest, as measured over trees of 1,024 leaves (bench/run --stack): check 0, to_table 12,488,
  * from_table 17,800, to_newick 55,400, from_newick 53,368, pack 2,128, unpack 4,304, shuffle 28,184, relabel 22,024,
