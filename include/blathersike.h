@@ -45,10 +45,11 @@
  *    7  a child in row t was named before, or twice in it       t
  *    8  the text breaks the grammar                             the first byte that no text can have there,
  *                                                               or the length if the text ends early
- *    9  a label is not below n, or was used before              its first byte
+ *    9  a text's label is not below n, its number of labels     the label's first byte
  *   10  a padding bit is set                                    the last byte's number
  *   11  a permutation's value is not below n, or used before    its index
  *   12  an archive has no tree of that number                   the number
+ *   13  a text's label was used before in it                    the label's first byte, where it stands again
  *   21  more trees than an archive counts                       2097151
  *
  * Each call below says which refusals it gives, in the order in which they are looked for.
@@ -82,7 +83,10 @@ void blathersike_from_table(size_t leaves, const uint16_t *rows, size_t rows_len
 /* Vector to Newick text: at most 6,056 bytes, no ending zero. Refusals: 1, 4, 3. */
 void blathersike_to_newick(const uint16_t *v, size_t v_length, uint8_t *out, size_t out_length, uint64_t answer[2]);
 
-/* Newick text to vector: n numbers. Refusals: 2 (above 6,056 bytes, place 6056), 8, 1, 9, 3. */
+/*
+ * Newick text to vector: n numbers. Refusals: 2 (above 6,056 bytes, place 6056), 8, 1, then 9 and 13 label by label in text
+ * order, 3.
+ */
 void blathersike_from_newick(const uint8_t *text, size_t text_length, uint16_t *out, size_t out_length,
                              uint64_t answer[2]);
 

@@ -86,6 +86,12 @@ static void texts(void)
     blathersike_from_newick((const uint8_t *)"(0,1,2);", 8, out, 4, a);
     expect("from_newick, grammar", a, 8, 4);
     holds("from_newick, grammar", out, none, sizeof none);
+    blathersike_from_newick((const uint8_t *)"((0,7),0);", 10, out, 4, a);
+    expect("from_newick, stray label", a, 9, 4);
+    holds("from_newick, stray label", out, none, sizeof none);
+    blathersike_from_newick((const uint8_t *)"((0,0),7);", 10, out, 4, a);
+    expect("from_newick, double label", a, 13, 4);
+    holds("from_newick, double label", out, none, sizeof none);
 }
 
 static void records(void)

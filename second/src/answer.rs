@@ -15,10 +15,11 @@ pub const PARENT: u8 = 5;
 pub const CHILD: u8 = 6;
 pub const CHILD_AGAIN: u8 = 7;
 pub const GRAMMAR: u8 = 8;
-pub const LABEL: u8 = 9;
+pub const STRAY_LABEL: u8 = 9;
 pub const PADDING: u8 = 10;
 pub const PERMUTATION: u8 = 11;
 pub const TREE: u8 = 12;
+pub const DOUBLE_LABEL: u8 = 13;
 pub const TREES: u8 = 21;
 
 #[derive(Clone, Copy, Debug, PartialEq, Eq)]

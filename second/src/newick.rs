@@ -2,13 +2,13 @@
 //!
 //! 01: "We write the child with the smaller least leaf first; the reader takes
 //! either. The leaf count n is the number of labels; each of 0 to n-1 must stand
-//! once."
+//! once." 02, CR 2: "9 is now only "not below n"; 13 is "used before"; label by label
+//! in text order, 9 before 13 at the same label."
 
-use crate::answer::{refuse, Refusal, LABEL, LENGTH};
+use crate::answer::{refuse, Refusal, DOUBLE_LABEL, LENGTH, STRAY_LABEL};
 use crate::grammar;
 use crate::tree::Tree;
 use crate::vector::leaf_count;
-use std::collections::BTreeSet;
 
 pub const LONGEST_TEXT: usize = 6056;
 
@@ -26,7 +26,7 @@ fn node(tree: &Tree) -> String {
 }
 
 /// The tree of a text, or the first refusal of the order "2 (above 6,056 bytes,
-/// place 6056), 8, 1, 9".
+/// place 6056), 8, 1", then 9 and 13.
 pub fn read(text: &[u8]) -> Result<Tree, Refusal> {
     if text.len() > LONGEST_TEXT {
         return refuse(LENGTH, LONGEST_TEXT);
@@ -35,13 +35,24 @@ pub fn read(text: &[u8]) -> Result<Tree, Refusal> {
     let text = std::str::from_utf8(text).expect("the grammar has ASCII signs only");
     let labels = labels(text);
     let n = leaf_count(labels.len() as u64)?;
-    let mut used = BTreeSet::new();
-    for (place, label) in labels {
-        if label >= n || !used.insert(label) {
-            return refuse(LABEL, place);
-        }
+    match faults(&labels, n).first() {
+        Some(&(place, number)) => refuse(number, place),
+        None => Ok(tree(text.trim_end_matches(';'))),
     }
-    Ok(tree(text.trim_end_matches(';')))
+}
+
+/// Every fault of every label, the place before the number, in rising order: so the
+/// first is the one of the first label at fault, and 9 where that label has both.
+fn faults(labels: &[(usize, usize)], n: usize) -> Vec<(usize, u8)> {
+    let stray = labels.iter().filter(|(_, label)| *label >= n).map(|&(place, _)| (place, STRAY_LABEL));
+    let double = labels.iter().filter(|&&label| used_before(labels, label)).map(|&(place, _)| (place, DOUBLE_LABEL));
+    let mut faults: Vec<(usize, u8)> = stray.chain(double).collect();
+    faults.sort();
+    faults
+}
+
+fn used_before(labels: &[(usize, usize)], (place, label): (usize, usize)) -> bool {
+    labels.iter().any(|&(other_place, other)| other_place < place && other == label)
 }
 
 /// Each label with the place of its first byte, in text order.

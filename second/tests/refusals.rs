@@ -135,7 +135,7 @@ fn wide(labels: usize) -> String {
 }
 
 #[test]
-fn text_8_before_1_before_9_before_3() {
+fn text_8_before_1_before_13_before_3() {
     let broken = format!("{}x", wide(1025));
     assert_eq!(answer_of_text(broken.as_bytes()), refused(8, broken.len() - 1));
     assert_eq!(answer_of_text(wide(1025).as_bytes()), refused(8, 4097));
@@ -143,17 +143,28 @@ fn text_8_before_1_before_9_before_3() {
     let first = "(".repeat(10) + "0,";
     let right_count = format!("{};", wide(1024));
     assert!(right_count.starts_with(&first));
-    assert_eq!(answer_of_text(right_count.as_bytes()), refused(9, first.len()));
-    assert_eq!(calls::from_newick(b"(1,1);", &mut []), refused(9, 3));
+    assert_eq!(answer_of_text(right_count.as_bytes()), refused(13, first.len()));
+    assert_eq!(calls::from_newick(b"(1,1);", &mut []), refused(13, 3));
+    assert_eq!(calls::from_newick(b"(1,2);", &mut []), refused(9, 3));
     assert_eq!(calls::from_newick(b"(1,0);", &mut []), refused(3, 2));
 }
 
 #[test]
-fn text_9_at_the_first_label_at_fault() {
+fn text_9_or_13_at_the_first_label_at_fault() {
     assert_eq!(answer_of_text(b"(9999,(0,0));"), refused(9, 1));
-    assert_eq!(answer_of_text(b"((0,0),9999);"), refused(9, 4));
+    assert_eq!(answer_of_text(b"((0,0),9999);"), refused(13, 4));
     assert_eq!(answer_of_text(b"(2,(1,3));"), refused(9, 6));
     assert_eq!(answer_of_text(b"(2,(1,0));"), Done(3));
+    assert_eq!(answer_of_text(b"(0,0);"), refused(13, 3));
+    assert_eq!(answer_of_text(b"5;"), refused(9, 0));
+}
+
+#[test]
+fn a_label_is_double_where_it_stands_again() {
+    assert_eq!(answer_of_text(b"((1,0),1);"), refused(13, 7));
+    assert_eq!(answer_of_text(b"((2,0),(2,0));"), refused(13, 8));
+    // The first 7 is stray; the second one, which is both, comes later.
+    assert_eq!(answer_of_text(b"(7,7);"), refused(9, 1));
 }
 
 #[test]

@@ -83,8 +83,12 @@ fn refused_texts() {
         ("(0,1)", 8, 5),
         ("(0,1,2);", 8, 4),
         ("12345;", 8, 4),
-        ("(0,0);", 9, 3),
+        ("(0,0);", 13, 3),
         ("5;", 9, 0),
+        ("((0,7),0);", 9, 4),
+        ("((0,0),7);", 13, 4),
+        ("((1,0),1);", 13, 7),
+        ("(7,7);", 9, 1),
     ];
     for (text, number, place) in cases {
         assert_eq!(answer_of_text(text.as_bytes()), refused(number, place), "{text}");
@@ -114,13 +118,14 @@ fn the_lines_hold_all_samples() {
         "check - : refused 1 0 : -\n",
         "check 0,0,3 : refused 4 2 : -\n",
         "from_newick - : refused 8 0 : -\n",
-        "from_newick (0,0); : refused 9 3 : -\n",
+        "from_newick (0,0); : refused 13 3 : -\n",
+        "from_newick ((0,7),0); : refused 9 4 : -\n",
         "unpack 0041 : refused 10 1 : -\n",
         "to_table 0 : done 0 : -\n",
     ] {
         assert_eq!(lines.matches(wanted).count(), 1, "{wanted}");
     }
-    assert_eq!(lines.lines().count(), 8 * 8 + 2 + 4 * 6 + 7 + 1 + ARCHIVES.len());
+    assert_eq!(lines.lines().count(), 8 * 8 + 2 + 4 * 6 + 11 + 1 + ARCHIVES.len());
 }
 
 /// The lines of the archive, the last ones.

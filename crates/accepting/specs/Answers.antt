@@ -7,7 +7,7 @@ use native.Mathlib.Omega.{arith}
 use lib.Dec.{eqb}
 use Rattle.rules.specs.Answer.{Outcome, done, refused, numberOf, reads, made, refuses}
 use Rattle.rules.specs.declared.Kind.{Kind}
-use Rattle.rules.specs.declared.Kind.the-variants.{LeafCount, InputLength, Room, Entry, Parent, Child, NamedBefore, Grammar, Label, Padding, Permutation, TreeNumber, TreeCount}
+use Rattle.rules.specs.declared.Kind.the-variants.{LeafCount, InputLength, Room, Entry, Parent, Child, NamedBefore, Grammar, StrayLabel, Padding, Permutation, TreeNumber, DoubleLabel, TreeCount}
 use Rattle.rules.specs.declared.Answer.{Answer}
 use Rattle.rules.specs.declared.Answer.the-variants.{Done, Refused}
 
@@ -36,10 +36,11 @@ kindOf k =
     (cond (eqb k 6) Child
     (cond (eqb k 7) NamedBefore
     (cond (eqb k 8) Grammar
-    (cond (eqb k 9) Label
+    (cond (eqb k 9) StrayLabel
     (cond (eqb k 10) Padding
     (cond (eqb k 11) Permutation
-    (cond (eqb k 12) TreeNumber TreeCount)))))))))))
+    (cond (eqb k 12) TreeNumber
+    (cond (eqb k 13) DoubleLabel TreeCount))))))))))))
 
 kind-of-number : (k : Kind) → kindOf (numberOf k) ≡ k
 unfolding kindOf numberOf
@@ -51,10 +52,11 @@ kind-of-number Parent = refl
 kind-of-number Child = refl
 kind-of-number NamedBefore = refl
 kind-of-number Grammar = refl
-kind-of-number Label = refl
+kind-of-number StrayLabel = refl
 kind-of-number Padding = refl
 kind-of-number Permutation = refl
 kind-of-number TreeNumber = refl
+kind-of-number DoubleLabel = refl
 kind-of-number TreeCount = refl
 
 -- the answer of an outcome

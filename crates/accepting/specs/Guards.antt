@@ -1,5 +1,6 @@
 -- The guards of the calls: when a refusal speaks, and when the call goes on.
--- Main results: no-leaf, many-leaves, some-leaves (1); wrong-length, right-length (2); refuse-if, pass-if (a test); refuse-at, pass-at (a fault found).
+-- Main results: no-leaf, many-leaves, some-leaves (1); wrong-length, right-length (2); refuse-if, pass-if (a test); refuse-at, pass-at (a fault found);
+-- refuse-label, pass-label (a label at fault).
 -- And back: what is made went past each guard: passed-count, passed-length, passed-if, passed-at.
 use mathlib.Core.Bool.{Bool, true, false, not, _||_}
 use mathlib.Core.Logic.{_≢_}
@@ -10,7 +11,8 @@ use native.Mathlib.Omega.{arith}
 use lib.Dec.{eqb, ltb}
 use borrow.Author.Tests.{ltb-false, lt-ltb, le-ltb, eqb-true, eqb-false, eq-eqb, ne-eqb, not-false}
 use Rattle.rules.specs.Answer.{Making, made, refuses}
-use Rattle.rules.specs.Guards.{refuseIf, refuseAt, refuseCount, refuseLength}
+use Rattle.rules.specs.Names.{NameFault, PlacedFault}
+use Rattle.rules.specs.Guards.{refuseIf, refuseAt, labelNumber, refuseLabel, refuseCount, refuseLength}
 use Rattle.basics.specs.Bools.{or-no}
 use Rattle.accepting.specs.Answers.{made-not-refuses}
 
@@ -54,6 +56,16 @@ refuse-at number place o m e = rw e
 pub pass-at : {W : Type 0} (number : ℕ) (o : Option ℕ) (m : Making W) → o ≡ none → refuseAt number o m ≡ m
 unfolding refuseAt
 pass-at number o m e = rw e
+
+-- a label at fault, and none
+pub refuse-label : {W : Type 0} (wrong : NameFault) (place : ℕ) (o : Option PlacedFault) (m : Making W) → o ≡ some (wrong, place)
+    → refuseLabel o m ≡ refuses (labelNumber wrong) place
+unfolding refuseLabel
+refuse-label wrong place o m e = rw e
+
+pub pass-label : {W : Type 0} (o : Option PlacedFault) (m : Making W) → o ≡ none → refuseLabel o m ≡ m
+unfolding refuseLabel
+pass-label o m e = rw e
 
 -- What is made went past each guard.
 pub passed-if : {W : Type 0} {x : W} (b : Bool) (number place : ℕ) (m : Making W) → refuseIf b number place m ≡ made x → (b ≡ false) × (m ≡ made x)

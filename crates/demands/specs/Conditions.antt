@@ -1,5 +1,5 @@
 -- When a refusal is given, in 01's words: what several calls share. What one call alone refuses stands in its own file, Law*.
--- Main definitions: CountWrong, Above, Unfit; RowWrong, FirstRow (5, 6, 7), PaddingSet (10), labelNumbers, labelPlace (9).
+-- Main definitions: CountWrong, Above, NotBelow, UsedBefore, Unfit; RowWrong, FirstRow (5, 6, 7), PaddingSet (10), labelNumbers, labelPlace (9, 13).
 use mathlib.Core.List.{List, map}
 use mathlib.Core.Logic.{_≢_, _⊎_}
 use mathlib.Core.Path.{_≡_}
@@ -25,9 +25,17 @@ Above v i = (i < length v) × (bound i < entry v i)
 abbrev pub WithinBounds : List ℕ → Type 0
 WithinBounds v = (i : ℕ) → i < length v → entry v i ≤ bound i
 
--- 9 and 11: "not below n, or used before"
+-- 9: "not below n"
+abbrev pub NotBelow : ℕ → List ℕ → ℕ → Type 0
+NotBelow n xs i = n ≤ entry xs i
+
+-- 13: "used before"
+abbrev pub UsedBefore : List ℕ → ℕ → Type 0
+UsedBefore xs i = (j : ℕ) × (j < i) × (entry xs j ≡ entry xs i)
+
+-- 11: "not below n, or used before"
 abbrev pub Unfit : ℕ → List ℕ → ℕ → Type 0
-Unfit n xs i = (i < length xs) × ((n ≤ entry xs i) ⊎ ((j : ℕ) × (j < i) × (entry xs j ≡ entry xs i)))
+Unfit n xs i = (i < length xs) × (NotBelow n xs i ⊎ UsedBefore xs i)
 
 -- row t of a table
 abbrev pub rowAt : List Row → ℕ → Row

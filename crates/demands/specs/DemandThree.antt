@@ -2,7 +2,7 @@
 -- notation; and every rooted binary tree with leaves 0 to n-1 is the tree of an accepted vector.
 -- Main definition: CladeOf (Input and Leads are in Leads). Main results: led, demand-three, archived-as-packed, every-tree-has-a-vector.
 use mathlib.Core.Bool.{Bool}
-use mathlib.Core.List.{List, []}
+use mathlib.Core.List.{List}
 use mathlib.Core.Logic.{_⊎_, inl, inr, _↔_}
 use mathlib.Core.Option.{none}
 use mathlib.Core.Path.{_≡_, refl, sym, _∙_, subst}
@@ -29,18 +29,17 @@ use Rattle.archive_laws.specs.Reader as tree
 use Rattle.archive_laws.specs.Reader.{read-vector}
 use Rattle.grammar.specs.Complete.{text-unique}
 use Rattle.grammar.specs.Faults.{no-fault-leaves}
-use Rattle.searching.specs.First.{FirstFound, first-at, nowhere}
+use Rattle.searching.specs.First.{first-at, nowhere}
 use Rattle.accepting.specs.Answers.{made-not-refuses}
 use Rattle.accepting.specs.Guards.{passed-if}
 use Rattle.accepting.specs.FromTable.{rows-accepted}
 use Rattle.laws.specs.OneToOne.{every-tree, same-clades-same-vector}
-use Rattle.demands.specs.Conditions.{CountWrong, CountRight, Unfit, labelNumbers, labelPlace}
-use Rattle.demands.specs.FirstPlace.{label-found}
+use Rattle.demands.specs.Conditions.{CountWrong, CountRight, labelPlace}
 use Rattle.demands.specs.FirstWrongRow.{RowFound, first-row, row-found}
 use Rattle.demands.specs.Cases.{count-cases, equal-cases}
 use Rattle.demands.specs.Law.{Accepted, made-accepted}
 use Rattle.demands.specs.LawFromTable.{TableRefused, table-1, table-2, table-row, lawful-from-table}
-use Rattle.demands.specs.LawFromNewick.{TextRefused, text-1, text-9, labels-fit, lawful-from-newick}
+use Rattle.demands.specs.LawFromNewick.{FirstUnfit, TextRefused, text-1, label-refused, label-cases, labels-fit, lawful-from-newick}
 use Rattle.demands.specs.LawReadTree.{treeEntries}
 use Rattle.demands.specs.Leads.{Input, vector, table, text, packed, archived, Leads}
 use Rattle.demands.specs.DemandTwo.{Vector, accepted-exactly}
@@ -101,17 +100,16 @@ led-table n xs w h =
 text-leads : (s w : List ℕ) (m : Made) → FromText s m → m ≡ made w → (t : Tree) × (n : ℕ) × Text s t × LeavesBelow n t × (n ≤ 1024) × (w ≡ vectorOf t)
 text-leads s w m (too-long a) e = absurd (made-not-refuses (sym e))
 text-leads s w m (breaks a b) e = absurd (made-not-refuses (sym e))
-text-leads s w m (reads-as t a b) e = go (count-cases (length (labelsOf s))) (label-found (length (labelsOf s)) (labelsOf s))
+text-leads s w m (reads-as t a b) e = go (count-cases (length (labelsOf s))) (label-cases s)
   where
     right : Accepted (TextRefused s)
     right = made-accepted _ _ _ (lawful-from-newick s) (fromLabels s t) (reads-as t a b) w e
 
-    go : CountWrong (length (labelsOf s)) ⊎ CountRight (length (labelsOf s))
-        → FirstFound (Unfit (length (labelsOf s)) (labelNumbers s)) (λ i w. labelPlace s i) (labelFault (length (labelsOf s)) [] (labelsOf s))
+    go : CountWrong (length (labelsOf s)) ⊎ CountRight (length (labelsOf s)) → ((i : ℕ) × FirstUnfit s i) ⊎ (labelFault s ≡ none)
         → (t : Tree) × (n : ℕ) × Text s t × LeavesBelow n t × (n ≤ 1024) × (w ≡ vectorOf t)
     go (inl c) f = absurd (right 1 0 (text-1 a b c))
-    go (inr c) (first-at i f g) = absurd (right 9 (labelPlace s i) (text-9 a b c f))
-    go (inr c) (nowhere g fit) =
+    go (inr c) (inl (i, f)) = let refused = label-refused s t i a b c f in absurd (right (refused .0) (labelPlace s i) (refused .1))
+    go (inr c) (inr g) =
         let z : made w ≡ made (vectorOf t) = sym e ∙ labels-fit s t c g in
         (t, length (labelsOf s), b, no-fault-leaves b g, c .1, cc)
 

@@ -4,7 +4,6 @@
 -- Main definitions: Vector, Writes, InRun, Notations. Main results: accepted-exactly, table-back, text-back, record-back, archive-back, demand-two.
 use mathlib.Core.List.{List, [], _∷_, _++_, append-nil}
 use mathlib.Core.Logic.{_⊎_, inl, inr, _↔_}
-use mathlib.Core.Option.{none}
 use mathlib.Core.Path.{_≡_, refl, sym, ap, _∙_, subst}
 use Prim.Native.Nat.{ℕ, _≤_, _<_}
 use native.Mathlib.Omega.{arith}
@@ -13,7 +12,7 @@ use Rattle.rules.specs.declared.Answer.{Answer}
 use Rattle.rules.specs.Tree.{treeOf}
 use Rattle.rules.specs.Order.{vectorOf}
 use Rattle.rules.specs.Table.{tableOf, rowsOf}
-use Rattle.rules.specs.Newick.{textOf, labelsOf, labelFault}
+use Rattle.rules.specs.Newick.{textOf, labelsOf}
 use Rattle.rules.specs.Record.{field, bitsOf, recordOf}
 use Rattle.rules.specs.Archive.{bareRecord, archiveOf, packedAt}
 use Rattle.rules.specs.Shuffle.{renamed, newOf}
@@ -89,10 +88,9 @@ text-back v W =
     let few = W .few in
     let T = written-text v (W .valid) (W .few) .reads-as-the-tree in
     let n : length (labelsOf (textOf (treeOf v))) ≡ length v = leaves-count (length v) T L in
-    let fit : labelFault (length (labelsOf (textOf (treeOf v)))) [] (labelsOf (textOf (treeOf v))) ≡ none = rw n (leaves-no-fault (length v) T L) in
     let short : length (textOf (treeOf v)) ≤ 6056 = omega (arith, text-length (length v) (treeOf v) L, text-length-most (length v) few) in
     let count : CountRight (length (labelsOf (textOf (treeOf v)))) = rw n (W .valid .some-leaf, W .few) in
-    subst (FromText (textOf (treeOf v))) (labels-fit (textOf (treeOf v)) (treeOf v) count fit ∙ ap made (vector-again v (W .valid))) (reads-as (treeOf v) short T)
+    subst (FromText (textOf (treeOf v))) (labels-fit (textOf (treeOf v)) (treeOf v) count (leaves-no-fault (length v) T L) ∙ ap made (vector-again v (W .valid))) (reads-as (treeOf v) short T)
 
 pub record-back : (v : List ℕ) → Vector v → unpack (recordOf v) ≡ made v
 record-back v W = unpack-record v W

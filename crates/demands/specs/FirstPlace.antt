@@ -1,5 +1,5 @@
 -- The searches of the rules find the first place where something is wrong, or that nothing is.
--- Main results: above-found (4), unfit-found (11), label-found (9), padding-found (10).
+-- Main results: above-found (4), unfit-found (11), label-found (9 and 13), padding-found (10).
 use mathlib.Core.Bool.{Bool, true, false, not, _||_, cond, true≢false, false≢true}
 use mathlib.Core.List.{List, [], _∷_, map}
 use mathlib.Core.Logic.{_⊎_, inl, inr, _↔_}
@@ -13,12 +13,11 @@ use lib.Seq.{getD-drop}
 use borrow.Author.Tests.{ltb-true, ltb-false, eqb-true, eq-eqb}
 use Rattle.rules.specs.Vector.{entry, bound, fault}
 use Rattle.rules.specs.Building.{member}
-use Rattle.rules.specs.Names.{Placed}
-use Rattle.rules.specs.Newick.{labelFault}
+use Rattle.rules.specs.Names.{Placed, firstFault}
 use Rattle.rules.specs.Record.{Bits, total, anySet, paddingIn}
 use Rattle.rules.specs.Shuffle.{permutationFault}
 use Rattle.basics.specs.Bools.{or-cases, or-left, or-right}
-use Rattle.basics.specs.Names.{label-step, value-step}
+use Rattle.basics.specs.Names.{faultOf, first-step, value-step}
 use Rattle.searching.specs.First.{Tells, tells-if, if-or-else, Below, FirstFound, found-same}
 use Rattle.searching.specs.Walked.{Walk, gathered, gathered-some, walk-found}
 use Rattle.demands.specs.Conditions.{Above, Unfit, PaddingSet}
@@ -71,12 +70,12 @@ abbrev UnfitAt : ℕ → (ℕ → ℕ) → ℕ → Type 0
 UnfitAt n number i = (n ≤ number i) ⊎ ((j : ℕ) × (j < i) × (number j ≡ number i))
 
 -- a walk that tests the number of each element finds the first such one
-unfit-walk : {A : Type 0} (n : ℕ) (number : A → ℕ) (place : ℕ → A → ℕ) (past : A) (xs : List A) (walk : ℕ → List ℕ → List A → Option ℕ)
-    → Walk (λ i used x. cond (not (ltb (number x) n) || member (number x) used) (some (place i x)) none) (λ used x. number x ∷ used) walk
-    → FirstFound (Below (length xs) (UnfitAt n (λ i. number (getD xs i past)))) (λ i w. place i (getD xs i past)) (walk 0 [] xs)
-unfit-walk n number place past xs walk W =
-    walk-found W past [] xs (UnfitAt n at) (λ i w. place i (getD xs i past))
-    (λ i h. unfit-tells n (at i) (gathered (λ used x. number x ∷ used) past [] xs i) _ (place i (getD xs i past)) (used-before number past xs (at i) i))
+unfit-walk : {A B : Type 0} (n : ℕ) (number : A → ℕ) (said : ℕ → A → B) (past : A) (xs : List A) (walk : ℕ → List ℕ → List A → Option B)
+    → Walk (λ i used x. cond (not (ltb (number x) n) || member (number x) used) (some (said i x)) none) (λ used x. number x ∷ used) walk
+    → FirstFound (Below (length xs) (UnfitAt n (λ i. number (getD xs i past)))) (λ i w. said i (getD xs i past)) (walk 0 [] xs)
+unfit-walk n number said past xs walk W =
+    walk-found W past [] xs (UnfitAt n at) (λ i w. said i (getD xs i past))
+    (λ i h. unfit-tells n (at i) (gathered (λ used x. number x ∷ used) past [] xs i) _ (said i (getD xs i past)) (used-before number past xs (at i) i))
   where
     at : ℕ → ℕ
     at i = number (getD xs i past)
@@ -91,7 +90,7 @@ unfit-found n p =
       at-each = λ i used x xs. value-step n i used x xs ∙ if-or-else (not (ltb x n) || member x used) i (permutationFault n (i + 1) (x ∷ used) xs);
     })
 
--- 9: the first label that is not below n, or used before, by the place of its first byte
+-- 9 and 13: the first label that is not below n, or used before: which of the two, and the place of its first byte
 abbrev value : Placed → ℕ
 value l = l .1
 
@@ -99,21 +98,26 @@ unfit-same : (n : ℕ) (x y : ℕ → ℕ) → ((i : ℕ) → x i ≡ y i) → (
 unfit-same n x y e i (inl h) = inl (omega (arith, e i))
 unfit-same n x y e i (inr u) = inr (u .0, u .1, omega (arith, e i, e (u .0), u .2))
 
-pub label-found : (n : ℕ) (ls : List Placed) → FirstFound (Unfit n (map value ls)) (λ i w. getD ls i (0, 0) .0) (labelFault n [] ls)
-unfolding labelFault entry
+pub label-found : (n : ℕ) (ls : List Placed)
+    → FirstFound (Unfit n (map value ls)) (λ i w. (faultOf n (entry (map value ls) i), getD ls i (0, 0) .0)) (firstFault n [] ls)
+unfolding firstFault entry
 label-found n ls =
-    found-same (λ i w. getD ls i (0, 0) .0)
-    (unfit-walk n value (λ i l. l .0) (0, 0) ls (λ i used ls. labelFault n used ls)
+    found-same (λ i w. (faultOf n (getD (map value ls) i 0), getD ls i (0, 0) .0))
+    (unfit-walk n value (λ i l. (faultOf n (value l), l .0)) (0, 0) ls (λ i used ls. firstFault n used ls)
     (record {
       at-end = λ i used. refl;
-      at-each = λ i used l ls. label-step n used l ls ∙ if-or-else (not (ltb (l .1) n) || member (l .1) used) (l .0) (labelFault n (l .1 ∷ used) ls);
+      at-each = λ i used l ls.
+          first-step n used l ls ∙ if-or-else (not (ltb (l .1) n) || member (l .1) used) (faultOf n (l .1), l .0) (firstFault n (l .1 ∷ used) ls);
     }))
-    (λ i w. (omega (arith, w .0, count), unfit-same n _ _ (λ j. sym (List·getD-map value ls j (0, 0))) i (w .1)))
-    (λ i w. (omega (arith, w .0, count), unfit-same n _ _ (λ j. List·getD-map value ls j (0, 0)) i (w .1)))
-    (λ i w. refl)
+    (λ i w. (omega (arith, w .0, count), unfit-same n _ _ (λ j. sym (numbered j)) i (w .1)))
+    (λ i w. (omega (arith, w .0, count), unfit-same n _ _ numbered i (w .1)))
+    (λ i w. ap (λ (x : ℕ). (faultOf n x, getD ls i (0, 0) .0)) (sym (numbered i)))
   where
     count : length (map value ls) ≡ length ls
     count = length-map ls value
+
+    numbered : (i : ℕ) → getD (map value ls) i 0 ≡ value (getD ls i (0, 0))
+    numbered i = List·getD-map value ls i (0, 0)
 
 -- a bit of a row is set
 any-set : (bs : List ℕ) → anySet bs ≡ true → (k : ℕ) × (getD bs k 0 ≡ 1)

@@ -11,7 +11,7 @@
 -- "a refusal carries its number and place from the table,"
 --     DemandOne.refused-exactly: a call refuses with a number and a place exactly when the condition holds that 01 gives. There is a line for each
 --     number and each kind of input, in 01's order: LawVector.VectorRefused (1, 4), LawRelabel.RelabelRefused (then 2, 11),
---     LawFromTable.TableRefused (1, 2, rows upward with 5, 6, 7 in each), LawFromNewick.TextRefused (2, 8, 1, 9), LawUnpack.RecordRefused
+--     LawFromTable.TableRefused (1, 2, rows upward with 5, 6, 7 in each), LawFromNewick.TextRefused (2, 8, 1, 9 and 13), LawUnpack.RecordRefused
 --     (2, 1, 2, 4, 10), LawWriteArchive.ArchiveRefused (1, 21, 2, 4), LawReadTree.TreeRefused (2, 1, 2, 12, 4, 10); "Of one number, the first place
 --     counts": rules First, Conditions.FirstRow. 3 comes last: room-exactly. No two conditions hold at once: one-refusal. Done: done-exactly, with
 --     the count.
@@ -63,6 +63,10 @@
 -- "Refusals: the reader gives 2 under 4 bytes (place 4), 1, 2 .., 12 .., then 4 and 10 .., then 3; the writer gives 1, 21 .., 2 .., 4 .., 3."
 --     LawReadTree.TreeRefused and LawWriteArchive.ArchiveRefused, in DemandOne.refused-exactly and room-exactly as those of every call. The place of the
 --     writer's 2 is the first multiple of n above the length: LawWriteArchive.next-multiple-first; that of its 4: FirstEntry.first-entry-found.
+--
+-- CR 2, a stray label and a double one. "9 is now only "not below n"; 13 is "used before"; label by label in text order, 9 before 13 at the same label."
+--     LawFromNewick.TextRefused, text-9 and text-13, in DemandOne.refused-exactly: FirstUnfit is the first label at fault, by either of the two, Stray
+--     and Double are the two. The first label at fault never is both: not-both.
 --
 -- The other files are on the way there: FirstPlace, FirstEntry and FirstWrongRow (the searches of the rules find the first place), Cases (each condition
 -- holds or not), Law (demand 1 for any call), Law* (when each call refuses, and that it makes what is wanted), Long (how many elements that is),

@@ -10,11 +10,11 @@ use lib.Dec.{eqb, ltb}
 use lib.ListN.{length}
 use borrow.Author.Tests.{eq-eqb, eqb-true, lt-ltb, ltb-true}
 use Rattle.rules.specs.Building.{member}
-use Rattle.rules.specs.Names.{Placed}
+use Rattle.rules.specs.Names.{Placed, PlacedFault, firstFault}
 use Rattle.rules.specs.Newick.{Text, labelsOf, labelFault}
 use Rattle.rules.specs.Tree.{Tree, leaf, node, has, Distinct, LeavesBelow}
 use Rattle.basics.specs.Bools.{or-no}
-use Rattle.basics.specs.Names.{label-step}
+use Rattle.basics.specs.Names.{faultOf, first-step}
 use Rattle.clades.specs.Leaves.{has-left, has-right, has-cases}
 use Rattle.clades.specs.Size.{every-leaf, size-below}
 use Rattle.grammar.specs.Labels.{value, leavesOf, text-labels, text-label-count}
@@ -25,18 +25,18 @@ unfolding member
 fits n used [] = true
 fits n used (x ∷ xs) = cond (not (ltb x n) || member x used) false (fits n (x ∷ used) xs)
 
-abbrev pub isNone : Option ℕ → Bool
+abbrev pub isNone : Option PlacedFault → Bool
 isNone none = true
 isNone (some x) = false
 
-pub fault-fits : (n : ℕ) (used : List ℕ) (ls : List Placed) → isNone (labelFault n used ls) ≡ fits n used (map value ls)
-unfolding labelFault fits
+pub fault-fits : (n : ℕ) (used : List ℕ) (ls : List Placed) → isNone (firstFault n used ls) ≡ fits n used (map value ls)
+unfolding firstFault fits
 fault-fits n used [] = refl
 fault-fits n used (l ∷ ls) =
-    ap isNone (label-step n used l ls) ∙ go (not (ltb (l .1) n) || member (l .1) used) (fault-fits n (l .1 ∷ used) ls)
+    ap isNone (first-step n used l ls) ∙ go (not (ltb (l .1) n) || member (l .1) used) (fault-fits n (l .1 ∷ used) ls)
   where
-    go : (b : Bool) → isNone (labelFault n (l .1 ∷ used) ls) ≡ fits n (l .1 ∷ used) (map value ls)
-        → isNone (cond b (some (l .0)) (labelFault n (l .1 ∷ used) ls)) ≡ cond b false (fits n (l .1 ∷ used) (map value ls))
+    go : (b : Bool) → isNone (firstFault n (l .1 ∷ used) ls) ≡ fits n (l .1 ∷ used) (map value ls)
+        → isNone (cond b (some (faultOf n (l .1), l .0)) (firstFault n (l .1 ∷ used) ls)) ≡ cond b false (fits n (l .1 ∷ used) (map value ls))
     go true h = refl
     go false h = h
 
@@ -125,12 +125,13 @@ leaves-fit n (node l r) used rest h =
     apart x true e g = absurd (h .once .0 x e g)
     apart x false e g = rw e
 
-pub is-none : (o : Option ℕ) → isNone o ≡ true → o ≡ none
+pub is-none : (o : Option PlacedFault) → isNone o ≡ true → o ≡ none
 is-none none e = refl
 is-none (some x) e = absurd (true≢false (sym e))
 
 -- labels without a fault are the leaves 0 to n-1
-pub no-fault-leaves : {s : List ℕ} {t : Tree} → Text s t → labelFault (length (labelsOf s)) [] (labelsOf s) ≡ none → LeavesBelow (length (labelsOf s)) t
+pub no-fault-leaves : {s : List ℕ} {t : Tree} → Text s t → labelFault s ≡ none → LeavesBelow (length (labelsOf s)) t
+unfolding labelFault
 no-fault-leaves {s} {t} h e =
     let n : ℕ = length (labelsOf s) in
     let f : fits n [] (leavesOf t ++ []) ≡ true =
@@ -139,12 +140,13 @@ no-fault-leaves {s} {t} h e =
     every-leaf n t (g .once) (g .small) (sym (text-label-count h))
 
 -- and the leaves 0 to n-1 are labels without a fault
-pub leaves-no-fault : {s : List ℕ} {t : Tree} (n : ℕ) → Text s t → LeavesBelow n t → labelFault n [] (labelsOf s) ≡ none
-unfolding member fits
-leaves-no-fault {s} {t} n h b =
-    let g : Fitting n [] t = record { once = b .once; small = λ x e. ltb-true x n (sym (b .all x) ∙ e); fresh = λ x e. refl } in
-    is-none (labelFault n [] (labelsOf s))
-    (fault-fits n [] (labelsOf s) ∙ ap (fits n []) (text-labels h ∙ sym (append-nil (leavesOf t))) ∙ leaves-fit n t [] [] g)
-
 pub leaves-count : {s : List ℕ} {t : Tree} (n : ℕ) → Text s t → LeavesBelow n t → length (labelsOf s) ≡ n
 leaves-count {s} {t} n h b = text-label-count h ∙ size-below n t b
+
+pub leaves-no-fault : {s : List ℕ} {t : Tree} (n : ℕ) → Text s t → LeavesBelow n t → labelFault s ≡ none
+unfolding labelFault member fits
+leaves-no-fault {s} {t} n h b =
+    let g : Fitting n [] t = record { once = b .once; small = λ x e. ltb-true x n (sym (b .all x) ∙ e); fresh = λ x e. refl } in
+    is-none (firstFault (length (labelsOf s)) [] (labelsOf s))
+    (fault-fits (length (labelsOf s)) [] (labelsOf s)
+    ∙ rw (leaves-count n h b) (ap (fits n []) (text-labels h ∙ sym (append-nil (leavesOf t))) ∙ leaves-fit n t [] [] g))

@@ -11,6 +11,7 @@ use lib.Dec.{eqb, ltb}
 use lib.ListN.{length, length-append}
 use borrow.Author.Tests.{eqb-true, eq-eqb, lt-ltb}
 use Rattle.rules.specs.Building.{member}
+use Rattle.rules.specs.Names.{firstFault}
 use Rattle.rules.specs.Newick.{Text, labelsOf, labelFault}
 use Rattle.rules.specs.Tree.{Tree, leaf, node, has}
 use Rattle.clades.specs.Leaves.{has-cases}
@@ -116,10 +117,10 @@ has-member (node l r) x h =
     right false e = e
 
 -- a text of n labels whose tree has each of the leaves 0 to n-1 has no label at fault
-pub each-leaf-no-fault : {s : List ℕ} {t : Tree} → Text s t → ((x : ℕ) → x < length (labelsOf s) → has t x ≡ true) → labelFault (length (labelsOf s)) [] (labelsOf s) ≡ none
-unfolding member
+pub each-leaf-no-fault : {s : List ℕ} {t : Tree} → Text s t → ((x : ℕ) → x < length (labelsOf s) → has t x ≡ true) → labelFault s ≡ none
+unfolding labelFault member
 each-leaf-no-fault {s} {t} h c =
     let n : ℕ = length (labelsOf s) in
     let e : length (leavesOf t) ≡ n = sym (ap length (text-labels h)) ∙ length-map (labelsOf s) Rattle.grammar.specs.Labels.value in
-    is-none (labelFault n [] (labelsOf s))
+    is-none (firstFault n [] (labelsOf s))
     (fault-fits n [] (labelsOf s) ∙ ap (fits n []) (text-labels h) ∙ covers-fit n [] (leavesOf t) (λ x i. has-member t x (c x i)) (omega arith))

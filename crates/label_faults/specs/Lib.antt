@@ -1,2 +1,3 @@
+pub mod Fault
 pub mod Marks
 pub mod Looking

@@ -1,4 +1,4 @@
-// Which label of a text is at fault, if one is: the marks of the labels that were read, and the second look at the bytes.
+// Which label of a text is at fault, if one is, and how: the marks of the labels that were read, and the second look at the bytes.
 use text_cells::MARKS;
 use text_labels::digit;
 ghost use mathlib.Core.Path.{_≡_};
@@ -7,10 +7,18 @@ ghost use mathlib.Core.Option.{none, some};
 ghost use Prim.Native.Nat.{_≤_, _<_};
 ghost use mathlib.Core.List.{[]};
 ghost use lib.ListN.{length};
-ghost use Rattle.rules.specs.Newick.{isDigit, labelsOf, labelFault};
+ghost use Rattle.rules.specs.Names.{firstFault};
+ghost use Rattle.rules.specs.Newick.{isDigit, labelsOf};
 ghost use Rattle.text_laws.specs.Cells.{Blank};
 ghost use Rattle.label_faults.specs.Marks.{EachOnce};
+ghost use Rattle.label_faults.specs.Fault.{faultIs};
 ghost use Rattle.label_faults.specs.Looking.{nextStart, nextNumber};
+
+// A label at fault, by the place of its first byte: not below n, or used before.
+pub enum LabelFault {
+    Stray(usize),
+    Double(usize),
+}
 
 // 1 where a label has no mark, else 0.
 fn absent(mark: u32) -> u32
@@ -55,10 +63,11 @@ fn next_number(inside: bool, x: usize, c: u8) -> usize
     d
 }
 
-// Looks at the bytes one by one. A label that reaches n is at fault whatever digits follow.
-fn look(s: &[u8], n: usize, used: &mut [u8]) -> usize
-    requires { ⌜ (n ≤ 1024) × (length (now used) ≡ 1024) × Blank (now used) × (labelFault n [] (labelsOf (now s)) ≡ none → ⊥) ⌝ }
-    ensures { λ r. ⌜ some r ≡ labelFault n [] (labelsOf (now (s .entry))) ⌝ }
+// Looks at the bytes one by one. A label that reaches n is stray whatever digits follow. Where no label before the bytes' end is at fault,
+// the one that ends there is; it is below n, so it is double.
+fn look(s: &[u8], n: usize, used: &mut [u8]) -> LabelFault
+    requires { ⌜ (n ≤ 1024) × (length (now used) ≡ 1024) × Blank (now used) × (firstFault n [] (labelsOf (now s)) ≡ none → ⊥) ⌝ }
+    ensures { λ r. ⌜ some (faultIs r) ≡ firstFault n [] (labelsOf (now (s .entry))) ⌝ }
 {
     let mut inside = false;
     let mut start: usize = 0;
@@ -70,25 +79,25 @@ fn look(s: &[u8], n: usize, used: &mut [u8]) -> usize
             start = next_start(inside, start, at);
             x = next_number(inside, x, c);
             if n <= x {
-                return start;
+                return LabelFault::Stray(start);
             }
             inside = true;
         } else if inside {
             if used[x] != 0 {
-                return start;
+                return LabelFault::Double(start);
             }
             used[x] = 1;
             inside = false;
         }
         at += 1;
     }
-    start
+    LabelFault::Double(start)
 }
 
-// The place of the first label at fault, where one is: the second look at a text, which only a refusal needs.
-pub fn first_fault(s: &[u8], n: usize) -> usize
-    requires { ⌜ (n ≤ 1024) × (labelFault n [] (labelsOf (now s)) ≡ none → ⊥) ⌝ }
-    ensures { λ r. ⌜ some r ≡ labelFault n [] (labelsOf (now (s .entry))) ⌝ }
+// The first label at fault, where one is: the second look at a text, which only a refusal needs.
+pub fn first_fault(s: &[u8], n: usize) -> LabelFault
+    requires { ⌜ (n ≤ 1024) × (firstFault n [] (labelsOf (now s)) ≡ none → ⊥) ⌝ }
+    ensures { λ r. ⌜ some (faultIs r) ≡ firstFault n [] (labelsOf (now (s .entry))) ⌝ }
 {
     let mut used = [0u8; 1024];
     look(s, n, &mut used)

@@ -16,10 +16,11 @@ pub fn number_of(kind: Kind) -> u64
         Kind::Child => 6,
         Kind::NamedBefore => 7,
         Kind::Grammar => 8,
-        Kind::Label => 9,
+        Kind::StrayLabel => 9,
         Kind::Padding => 10,
         Kind::Permutation => 11,
         Kind::TreeNumber => 12,
+        Kind::DoubleLabel => 13,
         Kind::TreeCount => 21,
     }
 }

@@ -3,7 +3,7 @@
 use mathlib.Core.List.{List}
 use Prim.Native.Nat.{ℕ}
 use Rattle.rules.specs.declared.Kind.{Kind}
-use Rattle.rules.specs.declared.Kind.the-variants.{LeafCount, InputLength, Room, Entry, Parent, Child, NamedBefore, Grammar, Label, Padding, Permutation, TreeNumber, TreeCount}
+use Rattle.rules.specs.declared.Kind.the-variants.{LeafCount, InputLength, Room, Entry, Parent, Child, NamedBefore, Grammar, StrayLabel, Padding, Permutation, TreeNumber, DoubleLabel, TreeCount}
 use Rattle.rules.specs.declared.Answer.{Answer}
 use Rattle.rules.specs.declared.Answer.the-variants.{Done, Refused}
 
@@ -22,10 +22,11 @@ numberOf Parent = 5
 numberOf Child = 6
 numberOf NamedBefore = 7
 numberOf Grammar = 8
-numberOf Label = 9
+numberOf StrayLabel = 9
 numberOf Padding = 10
 numberOf Permutation = 11
 numberOf TreeNumber = 12
+numberOf DoubleLabel = 13
 numberOf TreeCount = 21
 
 -- the outcome that an answer stands for

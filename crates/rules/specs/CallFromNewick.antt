@@ -1,20 +1,19 @@
--- Newick to vector: "2 (above 6,056 bytes, place 6056), 8, 1, 9, 3". What is made is a relation, since the grammar is one.
+-- Newick to vector: "2 (above 6,056 bytes, place 6056), 8, 1", then 9 and 13 "label by label in text order", "3". What is made is a relation, since the grammar is one.
 -- Main definitions: fromLabels, FromText, from-newick-call.
-use mathlib.Core.List.{List, []}
+use mathlib.Core.List.{List}
 use Prim.Native.Nat.{ℕ, _≤_, _<_}
 use lib.ListN.{length}
 use Rattle.rules.specs.Tree.{Tree}
 use Rattle.rules.specs.Order.{vectorOf}
 use Rattle.rules.specs.Newick.{Text, BreaksAt, labelsOf, labelFault}
 use Rattle.rules.specs.Answer.{Made, made, refuses}
-use Rattle.rules.specs.Guards.{refuseAt, refuseCount}
+use Rattle.rules.specs.Guards.{refuseLabel, refuseCount}
 use Rattle.rules.specs.Promise.{Call, list}
 
--- what a text makes that reads as the tree; "1, 9": "The leaf count n is the number of labels; each of 0 to n-1 must stand once."
+-- what a text makes that reads as the tree: 1 by the number of its labels, then 9 and 13
 unfoldable pub fromLabels : List ℕ → Tree → Made
-unfolding refuseCount refuseAt labelFault labelsOf vectorOf
-fromLabels s t =
-    refuseCount (length (labelsOf s)) (refuseAt 9 (labelFault (length (labelsOf s)) [] (labelsOf s)) (made (vectorOf t)))
+unfolding refuseCount refuseLabel labelFault labelsOf vectorOf
+fromLabels s t = refuseCount (length (labelsOf s)) (refuseLabel (labelFault s) (made (vectorOf t)))
 
 pub data FromText (s : List ℕ) : Made → Type 0 where
   too-long : 6056 < length s → FromText s (refuses 2 6056)

@@ -1,11 +1,12 @@
 -- The guards of the calls: each refuses an input, or lets what comes next stand.
--- Main definitions: refuseIf, refuseAt, refuseFault, refuseCount, refuseLength, fromVector.
+-- Main definitions: refuseIf, refuseAt, refuseFault, refuseLabel, refuseCount, refuseLength, fromVector.
 use mathlib.Core.Bool.{Bool, not, _||_, cond}
 use mathlib.Core.List.{List}
 use mathlib.Core.Option.{Option, none, some}
 use Prim.Native.Nat.{ℕ}
 use lib.Dec.{eqb, ltb}
 use lib.ListN.{length}
+use Rattle.rules.specs.Names.{NameFault, not-below, used-before, PlacedFault}
 use Rattle.rules.specs.Vector.{fault}
 use Rattle.rules.specs.Table.{Fault}
 use Rattle.rules.specs.Answer.{Making, refuses}
@@ -23,6 +24,17 @@ refuseAt number (some place) m = refuses number place
 unfoldable pub refuseFault : {W : Type 0} → Option Fault → Making W → Making W
 refuseFault none m = m
 refuseFault (some f) m = refuses (f .0) (f .1)
+
+-- "9 is now only "not below n"; 13 is "used before"": the number of what is wrong with a label
+unfoldable pub labelNumber : NameFault → ℕ
+labelNumber not-below = 9
+labelNumber used-before = 13
+
+-- the refusal that a label at fault is, if there is one, else what comes next
+unfoldable pub refuseLabel : {W : Type 0} → Option PlacedFault → Making W → Making W
+unfolding labelNumber
+refuseLabel none m = m
+refuseLabel (some f) m = refuses (labelNumber (f .0)) (f .1)
 
 -- 1: "leaf count 0 or above 1,024"; place 0
 unfoldable pub refuseCount : {W : Type 0} → ℕ → Making W → Making W

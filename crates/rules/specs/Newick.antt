@@ -7,7 +7,7 @@ use mathlib.Core.Path.{_≡_}
 use Prim.Native.Nat.{ℕ, zero, suc, _+_, _-_, _*_, _/_, _%_, _≤_, _<_}
 use lib.Dec.{eqb, ltb, leb}
 use lib.ListN.{length, take}
-use Rattle.rules.specs.Names.{Placed, firstFault, faultPlace}
+use Rattle.rules.specs.Names.{Placed, PlacedFault, firstFault}
 use Rattle.rules.specs.Tree.{Tree, leaf, node, least}
 
 -- A text is a list of bytes. The signs are ( 40, ) 41, comma 44, ; 59, and the digits 48 to 57.
@@ -98,7 +98,7 @@ unfoldable pub labelsOf : List ℕ → List Placed
 unfolding labelsFrom
 labelsOf s = labelsFrom 0 none s
 
--- the place of refusal 9: "label not below n, or used before", the first in text order
-unfoldable pub labelFault : ℕ → List ℕ → List Placed → Option ℕ
-unfolding firstFault faultPlace
-labelFault n used ls = faultPlace (firstFault n used ls)
+-- "The leaf count n is the number of labels; each of 0 to n-1 must stand once." The first label at fault, "label by label in text order".
+unfoldable pub labelFault : List ℕ → Option PlacedFault
+unfolding firstFault labelsOf
+labelFault s = firstFault (length (labelsOf s)) [] (labelsOf s)

@@ -154,7 +154,7 @@ checks =
     ∷ []
 
 -- of the refused texts those that the grammar takes; TextSamples has the others
-refused-hold : Hold checks × (unpack (0x00 ∷ 0x41 ∷ []) ≡ refuses 10 1) × FromText (bytes "(0,0);") (refuses 9 3)
+refused-hold : Hold checks × (unpack (0x00 ∷ 0x41 ∷ []) ≡ refuses 10 1) × FromText (bytes "(0,0);") (refuses 13 3)
     × FromText (bytes "5;") (refuses 9 0) × FromText (bytes "1;") (refuses 9 0)
 unfolding check unpack fromLabels pairText IsLe allDigits valueFrom
 refused-hold = (

@@ -1,20 +1,20 @@
 -- Samples of the grammar: numbers in decimal, 01's refused texts, long and deep ones.
--- Main results: decimals, signs, wrong-labels, broken-texts, long-texts, levels-hold.
+-- Main results: decimals, signs, wrong-labels, several-faults, broken-texts, long-texts, levels-hold.
 use mathlib.Core.Bool.{true, false, false≢true}
 use mathlib.Core.Logic.{_≢_}
 use mathlib.Core.List.{List, [], _∷_, _++_, map, append-assoc}
-use mathlib.Core.Option.{some}
+use mathlib.Core.Option.{none, some}
 use mathlib.Core.Path.{_≡_, refl, sym, ap, _∙_}
 use Prim.Native.Nat.{ℕ, zero, suc, _≤_, _<_}
 use native.Mathlib.Bridge.{le-by-compare, IsLe}
 use native.Mathlib.Omega.{arith}
 use lib.ListN.{length, getD, replicate, length-append}
-use Rattle.rules.specs.Names.{not-below, used-before, firstFault}
+use Rattle.rules.specs.Names.{not-below, used-before, nameFault}
 use Rattle.rules.specs.Tree.{Tree, leaf, node}
-use Rattle.rules.specs.Newick.{pairText, textOf, isDigit, allDigits, valueFrom, nought, number, Node, label, pair, Text, text, Begins, broken, ended, labelsOf}
+use Rattle.rules.specs.Newick.{pairText, textOf, isDigit, allDigits, valueFrom, nought, number, Node, label, pair, Text, text, Begins, broken, ended, labelsOf, labelFault}
 use Rattle.rules.specs.Answer.{refuses}
 use Rattle.rules.specs.CallFromNewick.{fromLabels, FromText, too-long, breaks, reads-as}
-use Rattle.rules.specs.Samples.{bytes, node-0, node-1}
+use Rattle.rules.specs.Samples.{bytes, node-0, node-1, digit}
 
 -- numbers in decimal
 decimals : map (λ x. textOf (leaf x)) (0 ∷ 9 ∷ 10 ∷ 99 ∷ 100 ∷ 999 ∷ 1000 ∷ 1023 ∷ []) ≡ map bytes ("0;" ∷ "9;" ∷ "10;" ∷ "99;" ∷ "100;" ∷ "999;" ∷ "1000;" ∷ "1023;" ∷ [])
@@ -27,10 +27,25 @@ signs : (map isDigit (47 ∷ 48 ∷ 57 ∷ 58 ∷ []) ≡ false ∷ true ∷ tru
 unfolding isDigit allDigits labelsOf
 signs = (refl, refl, refl)
 
--- what is wrong with a label, and where
-wrong-labels : (firstFault 2 [] (labelsOf (bytes "(0,0);")) ≡ some (used-before, 3)) × (firstFault 1 [] (labelsOf (bytes "5;")) ≡ some (not-below, 0))
-unfolding firstFault labelsOf
-wrong-labels = (refl, refl)
+-- what is wrong with a label, and where; one that is both is said to be not below n
+wrong-labels : (labelFault (bytes "(0,0);") ≡ some (used-before, 3)) × (labelFault (bytes "5;") ≡ some (not-below, 0))
+    × (nameFault 2 (7 ∷ []) 7 ≡ some not-below) × (nameFault 2 (1 ∷ []) 1 ≡ some used-before) × (nameFault 2 (0 ∷ []) 1 ≡ none)
+unfolding labelFault nameFault
+wrong-labels = (refl, refl, refl, refl, refl)
+
+-- of several labels at fault the first counts, whichever fault it has; a label is double where it stands again
+several-faults : FromText (bytes "((0,7),0);") (refuses 9 4) × FromText (bytes "((0,0),7);") (refuses 13 4)
+    × FromText (bytes "((1,0),1);") (refuses 13 7) × FromText (bytes "(7,7);") (refuses 9 1)
+unfolding fromLabels pairText IsLe allDigits valueFrom
+several-faults = (
+  reads-as _ (le-by-compare 10 6056 tt) (text (pair (pair node-0 node-7) node-0)),
+  reads-as _ (le-by-compare 10 6056 tt) (text (pair (pair node-0 node-0) node-7)),
+  reads-as _ (le-by-compare 10 6056 tt) (text (pair (pair node-1 node-0) node-1)),
+  reads-as _ (le-by-compare 6 6056 tt) (text (pair node-7 node-7)),
+)
+  where
+    node-7 : {d : ℕ} → Node d (55 ∷ []) (leaf 7)
+    node-7 = digit 55 refl refl
 
 -- What stands at the first places of a text, and at its last.
 begins-well : {s : List ℕ} {t : Tree} → Text s t → (1 ≤ length s) × (getD s 0 0 ≢ 41)
@@ -119,7 +134,7 @@ long =
     pairText (times twice 10 (bytes "10"))
     (pairText (times twice 7 (bytes "1000")) (pairText (times twice 2 (bytes "1000")) (times twice 1 (bytes "1000")))) ++ (59 ∷ [])
 
--- "Text: 2 (above 6,056 bytes, place 6056), 8, 1, 9": 1 where labels stand twice, 2 where the grammar is broken
+-- "Text: 2 (above 6,056 bytes, place 6056), 8, 1, 9", and 13: 1 where labels stand twice, 2 where the grammar is broken
 long-texts : FromText long (refuses 1 0) × FromText (replicate 6057 40) (refuses 2 6056)
 unfolding times twice fromLabels pairText IsLe allDigits valueFrom
 long-texts = (

@@ -11,10 +11,11 @@ pub enum Kind {
     Child,
     NamedBefore,
     Grammar,
-    Label,
+    StrayLabel,
     Padding,
     Permutation,
     TreeNumber,
+    DoubleLabel,
     TreeCount,
 }
 

@@ -57,6 +57,14 @@ fn refused_texts() {
     call_lines::from_newick(b"5;");
 }
 
+// Of several labels at fault the first counts; a label is double where it stands again.
+fn faulty_labels() {
+    call_lines::from_newick(b"((0,7),0);");
+    call_lines::from_newick(b"((0,0),7);");
+    call_lines::from_newick(b"((1,0),1);");
+    call_lines::from_newick(b"(7,7);");
+}
+
 // The trees 0,0,1,4 and 0,0,2,1; no tree; three trees of one leaf.
 fn archives() {
     let mut archive = [0u8; 6];
@@ -104,6 +112,7 @@ fn main() {
     call_lines::relabel(&[0, 0, 1, 4], &[1, 0, 2, 3]);
     refused_vectors();
     refused_texts();
+    faulty_labels();
     call_lines::unpack(&[0x00, 0x41]);
     archives();
     refused_lists();

@@ -1,6 +1,7 @@
 // The public calls between a vector and a Newick text.
 use answering::hand_out;
 use answering::refuse;
+use label_faults::LabelFault;
 use rules::Answer;
 use rules::Kind;
 use text_vector::TextVector;
@@ -26,7 +27,7 @@ pub fn to_newick(v: &[u16], out: &mut [u8]) -> Answer
     }
 }
 
-/// Newick to vector: 2 (above 6,056 bytes), 8, 1, 9, 3.
+/// Newick to vector: 2 (above 6,056 bytes), 8, 1, then 9 and 13 label by label, 3.
 pub fn from_newick(text: &[u8], out: &mut [u16]) -> Answer
     ensures { λ r. ⌜ Keeps (from-newick-call (now (text .entry))) (now (out .entry)) r (now (out .exit)) ⌝ }
 {
@@ -37,7 +38,10 @@ pub fn from_newick(text: &[u8], out: &mut [u16]) -> Answer
     match text_vector::read_vector(text, &mut vector) {
         TextVector::Breaks(place) => refuse(Kind::Grammar, place),
         TextVector::TooMany => refuse(Kind::LeafCount, 0),
-        TextVector::Label(place) => refuse(Kind::Label, place),
+        TextVector::Label(fault) => match fault {
+            LabelFault::Stray(place) => refuse(Kind::StrayLabel, place),
+            LabelFault::Double(place) => refuse(Kind::DoubleLabel, place),
+        },
         TextVector::Entries(n) => hand_out(&vector, n, out),
     }
 }

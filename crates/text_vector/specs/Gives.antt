@@ -11,11 +11,12 @@ use lib.Seq.{take-at, sets}
 use borrow.Author.Tests.{lt-ltb}
 use Rattle.rules.specs.Tree.{has, LeavesBelow}
 use Rattle.rules.specs.Order.{vectorOf}
+use Rattle.rules.specs.Names.{PlacedFault, firstFault}
 use Rattle.rules.specs.Newick.{labelsOf, labelFault}
 use Rattle.rules.specs.Answer.{Made, made, refuses}
-use Rattle.rules.specs.Guards.{refuseAt}
+use Rattle.rules.specs.Guards.{labelNumber, refuseLabel}
 use Rattle.rules.specs.CallFromNewick.{fromLabels, FromText, reads-as}
-use Rattle.accepting.specs.Guards.{many-leaves, some-leaves, refuse-at, pass-at}
+use Rattle.accepting.specs.Guards.{many-leaves, some-leaves, refuse-label, pass-label}
 use Rattle.laws.specs.OneToOne.{every-tree}
 use Rattle.grammar.specs.Labels.{text-label-count}
 use Rattle.grammar.specs.Pairs.{pairsFrom, size-pairs}
@@ -23,6 +24,7 @@ use Rattle.grammar.specs.Faults.{no-fault-leaves}
 use Rattle.grammar.specs.Once.{each-leaf-no-fault}
 use Rattle.text_laws.specs.Cells.{cell, begun, Blank, begun-cells, begun-other}
 use Rattle.text_laws.specs.Answers.{TextTook}
+use Rattle.label_faults.specs.Fault.{faultIs}
 use Rattle.label_faults.specs.Marks.{EachOnce}
 use Rattle.text_laws.specs.Recorded.{children, kept-cells, pairs-there, marks-there, TableOf, recordedRows, table-recorded}
 use Rattle.text_vector.specs.declared.TextVector.{TextVector}
@@ -40,7 +42,7 @@ abbrev pub Gives : List ℕ → List ℕ → TextVector → Type 0
 Gives s vector (Entries n) = Holds s n vector
 Gives s vector (Breaks k) = FromText s (refuses 8 k)
 Gives s vector TooMany = FromText s (refuses 1 0)
-Gives s vector (Label k) = FromText s (refuses 9 k)
+Gives s vector (Label f) = FromText s (refuses (labelNumber (faultIs f .0)) (faultIs f .1))
 
 -- a text of n labels is read into an array of zeros
 pub record Taken (s m m′ : List ℕ) (n : ℕ) : Type 0 where
@@ -66,14 +68,16 @@ module _ {s m m′ : List ℕ} {n : ℕ} (K : Taken s m m′ n) where
   unfolding fromLabels
   too-many h = makes-labels (refuses 1 0) (many-leaves (length (labelsOf s)) _ (omega (arith, count)))
 
-  checked : n ≤ 1024 → fromLabels s (T .tree) ≡ refuseAt 9 (labelFault n [] (labelsOf s)) (made (vectorOf (T .tree)))
+  checked : n ≤ 1024 → fromLabels s (T .tree) ≡ refuseLabel (labelFault s) (made (vectorOf (T .tree)))
   unfolding fromLabels
-  checked h =
-      some-leaves (length (labelsOf s)) _ (omega (arith, count, some-labels)) (omega (arith, count))
-      ∙ ap (λ (k : ℕ). refuseAt 9 (labelFault k [] (labelsOf s)) (made (vectorOf (T .tree)))) count
+  checked h = some-leaves (length (labelsOf s)) _ (omega (arith, count, some-labels)) (omega (arith, count))
 
-  pub label-found : n ≤ 1024 → (k : ℕ) → some k ≡ labelFault n [] (labelsOf s) → FromText s (refuses 9 k)
-  label-found few k e = makes-labels (refuses 9 k) (checked few ∙ refuse-at 9 k _ _ (sym e))
+  fault-is : labelFault s ≡ firstFault n [] (labelsOf s)
+  unfolding labelFault
+  fault-is = ap (λ (k : ℕ). firstFault k [] (labelsOf s)) count
+
+  pub label-found : n ≤ 1024 → (f : PlacedFault) → some f ≡ firstFault n [] (labelsOf s) → FromText s (refuses (labelNumber (f .0)) (f .1))
+  label-found few f e = makes-labels (refuses (labelNumber (f .0)) (f .1)) (checked few ∙ refuse-label (f .0) (f .1) _ _ (fault-is ∙ sym e))
 
   pub array-kept : length m′ ≡ 2576
   array-kept =
@@ -88,9 +92,9 @@ module _ {s m m′ : List ℕ} {n : ℕ} (K : Taken s m m′ n) where
         ap (λ (l : List ℕ). cell l (16 + x)) (T .there) ∙ marks-there (T .tree) (begun m) (c .0) (omega (arith, c .1)) x (omega arith) ∙ ap (cond (has (T .tree) x) 1) z
 
     -- a label without its mark: some label is at fault
-    pub some-fault : EachOnce m′ n false → labelFault n [] (labelsOf s) ≡ none → ⊥
+    pub some-fault : EachOnce m′ n false → firstFault n [] (labelsOf s) ≡ none → ⊥
     some-fault (x, h, e) q =
-        let b : LeavesBelow (length (labelsOf s)) (T .tree) = no-fault-leaves (T .reads-as) (ap (λ (k : ℕ). labelFault k [] (labelsOf s)) count ∙ q) in
+        let b : LeavesBelow (length (labelsOf s)) (T .tree) = no-fault-leaves (T .reads-as) (fault-is ∙ q) in
         let f : has (T .tree) x ≡ true = b .all x ∙ lt-ltb x (length (labelsOf s)) (omega (arith, count)) in
         let g : cell m′ (16 + x) ≡ 1 = mark-is x h ∙ ap (λ (c : Bool). cond c 1 0) f in
         omega arith
@@ -103,14 +107,11 @@ module _ {s m m′ : List ℕ} {n : ℕ} (K : Taken s m m′ n) where
           go true e = e
           go false e = absurd (once x h (mark-is x h ∙ ap (λ (c : Bool). cond c 1 0) e))
 
-      no-fault′ : labelFault (length (labelsOf s)) [] (labelsOf s) ≡ none
-      no-fault′ = each-leaf-no-fault (T .reads-as) (λ x h. has-each x (omega (arith, count)))
-
-      no-fault : labelFault n [] (labelsOf s) ≡ none
-      no-fault = ap (λ (k : ℕ). labelFault k [] (labelsOf s)) (sym count) ∙ no-fault′
+      no-fault : labelFault s ≡ none
+      no-fault = each-leaf-no-fault (T .reads-as) (λ x h. has-each x (omega (arith, count)))
 
       leaves : LeavesBelow n (T .tree)
-      leaves = subst (λ (k : ℕ). LeavesBelow k (T .tree)) count (no-fault-leaves (T .reads-as) no-fault′)
+      leaves = subst (λ (k : ℕ). LeavesBelow k (T .tree)) count (no-fault-leaves (T .reads-as) no-fault)
 
       pub table-read : TableOf n (T .tree) (recordedRows n (drop 1040 m′))
       table-read =
@@ -127,5 +128,5 @@ module _ {s m m′ : List ℕ} {n : ℕ} (K : Taken s m m′ n) where
           let f : take n vector ≡ vectorOf (T .tree) = ap (take n) v ∙ take-at (vectorOf (T .tree)) rest n l in
           record {
             count = ap length f ∙ l;
-            makes = makes-labels _ (checked few ∙ pass-at 9 _ _ no-fault ∙ ap made (sym f));
+            makes = makes-labels _ (checked few ∙ pass-label _ _ no-fault ∙ ap made (sym f));
           }

@@ -1,4 +1,5 @@
 // The vector of a text: the text is read, its labels are checked, and the pairs that were recorded make the vector.
+use label_faults::LabelFault;
 use text_cells::CELLS;
 use text_reader::Read;
 ghost use mathlib.Core.Path.{_≡_};
@@ -10,13 +11,13 @@ ghost use Rattle.rules.specs.Order.{vectorOf};
 ghost use Rattle.text_laws.specs.Recorded.{TableOf, recordedRows};
 ghost use Rattle.text_vector.specs.Gives.{Gives};
 
-// What a text gives: a vector with so many entries; or the place where it breaks the grammar; or too many leaves; or the place
-// of the first label at fault.
+// What a text gives: a vector with so many entries; or the place where it breaks the grammar; or too many leaves; or the first
+// label at fault.
 pub enum TextVector {
     Entries(usize),
     Breaks(usize),
     TooMany,
-    Label(usize),
+    Label(LabelFault),
 }
 
 // The vector of the tree with n leaves whose pairs are recorded, at the front of vector.

@@ -14,7 +14,7 @@ pub use table_calls::from_table;
 // to_newick(v, out): vector to Newick: 1, 4, 3.
 pub use text_calls::to_newick;
 
-// from_newick(text, out): Newick to vector: 2 (above 6,056 bytes), 8, 1, 9, 3.
+// from_newick(text, out): Newick to vector: 2 (above 6,056 bytes), 8, 1, then 9 and 13 label by label, 3.
 pub use text_calls::from_newick;
 
 // pack(v, out): vector to packed record: 1, 4, 3.

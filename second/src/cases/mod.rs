@@ -11,6 +11,7 @@ pub mod archives;
 pub mod chance;
 pub mod drafts;
 pub mod ends;
+pub mod labels;
 pub mod listings;
 pub mod lists;
 pub mod permutations;
@@ -36,6 +37,7 @@ pub fn all() -> Vec<Case> {
     records::add(&mut cases, &mut chance);
     permutations::add(&mut cases, &mut chance);
     ends::add(&mut cases, &mut chance);
+    labels::add(&mut cases, &mut chance);
     cases
 }
 

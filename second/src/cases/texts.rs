@@ -1,9 +1,9 @@
 //! Cases of the reader of Newick texts.
 //!
-//! 01: "Text: 2 (above 6,056 bytes, place 6056), 8, 1, 9, 3." Damage: a byte
+//! 01: "Text: 2 (above 6,056 bytes, place 6056), 8, 1, 9, 3", and 02's 13. Damage: a byte
 //! missing, added or changed, a text cut short or gone on, labels with a leading
 //! zero or five digits, labels out of range or twice, too many labels, and too
-//! many brackets open at once.
+//! many brackets open at once. Labels with several faults are in `labels`.
 
 use super::chance::Chance;
 use super::{rooms, vectors};
@@ -49,7 +49,7 @@ pub fn add(cases: &mut Vec<Case>, chance: &mut Chance) {
     }
 }
 
-fn case(text: Vec<u8>, chance: &mut Chance) -> Case {
+pub fn case(text: Vec<u8>, chance: &mut Chance) -> Case {
     // As many labels as commas and one more, where the text is right.
     let n = text.iter().filter(|&&byte| byte == b',').count() + 1;
     Case::FromNewick { text, out: rooms::lent(chance, n) }

@@ -4,6 +4,7 @@ use Prim.Native.Nat.{_-_}
 use lib.ListN.{length}
 use mathlib.Core.Path.{sym, _∙_}
 use mathlib.Core.Logic.{⊎-elim}
+use Rattle.label_faults.specs.Fault.{faultIs}
 use Rattle.label_faults.specs.Looking.{Looking, look-start, look-large, look-digit, look-used, look-fresh, look-pass, look-end, looking-as, number-small}
 use Rattle.label_faults.proofs.look.Statement.{statement}
 use Rattle.label_faults.proofs.look.Tie as tie
@@ -38,6 +39,7 @@ same-length : tie.Need-same-length Inv-loop μ-loop
 same-length c = search needs
 
 returns : tie.Need-returns Inv-loop μ-loop
+unfolding faultIs
 returns c = let at-if1 = c .before .before .before in
     let at-digit = c .before .before .before .before in
     let at-loop-test = c .before .before .before .before .before .before in
@@ -53,6 +55,7 @@ same-length-2 : tie.Need-same-length-2 Inv-loop μ-loop
 same-length-2 c = search needs
 
 returns-2 : tie.Need-returns-2 Inv-loop μ-loop
+unfolding faultIs
 returns-2 c = let at-if1 = c .before .before .before in
     let at-digit = c .before .before .before .before in
     let at-loop-test = c .before .before .before .before .before .before in
@@ -87,6 +90,7 @@ same-length-3 : tie.Need-same-length-3 Inv-loop μ-loop
 same-length-3 c = search needs
 
 returns-3 : tie.Need-returns-3 Inv-loop μ-loop
+unfolding faultIs
 returns-3 c = look-end (c .before .loop .inv) (c .loop-test .left) (c .before .before .before .before .pre .3)
 
 pub look-spec : {M : Type 1} → statement M

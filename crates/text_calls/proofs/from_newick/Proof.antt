@@ -2,6 +2,8 @@
 use Rattle.rules.specs.Answer as answers
 use Rattle.accepting.specs.Kept.{refused-early, handed-on}
 use Rattle.rules.specs.CallFromNewick.{too-long}
+use Rattle.rules.specs.Guards.{labelNumber}
+use Rattle.label_faults.specs.Fault.{faultIs}
 use Rattle.text_vector.specs.Gives.{held-there}
 use borrow.Author.Needs.{needs}
 use Rattle.text_calls.proofs.from_newick.Statement.{statement}
@@ -32,11 +34,20 @@ enum-told c = search needs
 refuse-requires-3 : tie.Need-refuse-requires-3
 refuse-requires-3 c κs = search needs
 
-enum-known-place-2 : tie.Need-enum-known-place-2
-enum-known-place-2 c = search needs
+enum-known-fault : tie.Need-enum-known-fault
+enum-known-fault c = search needs
+
+enum-known-fault-2 : tie.Need-enum-known-fault-2
+enum-known-fault-2 c = search needs
 
 refuse-requires-4 : tie.Need-refuse-requires-4
 refuse-requires-4 c κs = search needs
+
+enum-known-fault-3 : tie.Need-enum-known-fault-3
+enum-known-fault-3 c = search needs
+
+refuse-requires-5 : tie.Need-refuse-requires-5
+refuse-requires-5 c κs = search needs
 
 enum-known-n : tie.Need-enum-known-n
 enum-known-n c = search needs
@@ -62,16 +73,26 @@ returns-3 c =
     refused-early _ F (c .refuse3 .ensures)
 
 returns-4 : tie.Need-returns-4
-unfolding answers.reads answers.numberOf
+unfolding answers.reads answers.numberOf labelNumber faultIs
 returns-4 c =
-    let F = rw (c .before .before .place2 .given .1) at (c .before .before .before .before .before .read-vector .ensures) in
+    let told = c .before .before in
+    let at-fault = told .before .before .before in
+    let F = rw (at-fault .fault .given .1, told .fault2 .given .1) at (at-fault .before .before .before .read-vector .ensures) in
     refused-early _ F (c .refuse4 .ensures)
+
+returns-5 : tie.Need-returns-5
+unfolding answers.reads answers.numberOf labelNumber faultIs
+returns-5 c =
+    let told = c .before .before in
+    let at-fault = told .before .before .before in
+    let F = rw (at-fault .fault .given .1, told .fault3 .given .1) at (at-fault .before .before .before .read-vector .ensures) in
+    refused-early _ F (c .refuse5 .ensures)
 
 same-length : tie.Need-same-length
 same-length c = search needs
 
-returns-5 : tie.Need-returns-5
-returns-5 c =
+returns-6 : tie.Need-returns-6
+returns-6 c =
     let told = c .before .before .before .before .before .before in
     let H = rw (told .n .given .1) at (told .before .before .before .read-vector .ensures) in
     handed-on _ (H .makes) (c .before .before .hand-out .ensures)
@@ -88,13 +109,17 @@ from-newick-spec =
     refuse-requires-2
     enum-told
     refuse-requires-3
-    enum-known-place-2
+    enum-known-fault
+    enum-known-fault-2
     refuse-requires-4
+    enum-known-fault-3
+    refuse-requires-5
     enum-known-n
     slice-aggregate-hand-out
     hand-out-requires
     returns-2
     returns-3
     returns-4
+    returns-5
     same-length
-    returns-5)
+    returns-6)
