@@ -44,8 +44,12 @@ pub fn read(text: &[u8]) -> Result<Tree, Refusal> {
 /// Every fault of every label, the place before the number, in rising order: so the
 /// first is the one of the first label at fault, and 9 where that label has both.
 fn faults(labels: &[(usize, usize)], n: usize) -> Vec<(usize, u8)> {
-    let stray = labels.iter().filter(|(_, label)| *label >= n).map(|&(place, _)| (place, STRAY_LABEL));
-    let double = labels.iter().filter(|&&label| used_before(labels, label)).map(|&(place, _)| (place, DOUBLE_LABEL));
+    let stray =
+        labels.iter().filter(|(_, label)| *label >= n).map(|&(place, _)| (place, STRAY_LABEL));
+    let double = labels
+        .iter()
+        .filter(|&&label| used_before(labels, label))
+        .map(|&(place, _)| (place, DOUBLE_LABEL));
     let mut faults: Vec<(usize, u8)> = stray.chain(double).collect();
     faults.sort();
     faults

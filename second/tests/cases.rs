@@ -8,7 +8,7 @@ use second::answer::Answer::{self, Done, Refused};
 use second::cases;
 use second::run::{hash, line, run, Given};
 use second::stream::{self, Case, Lent};
-use std::collections::BTreeMap;
+use std::collections::{BTreeMap, BTreeSet};
 use std::sync::{Arc, Mutex};
 
 /// A case, its answer, and the hashes of its buffers after the call.
@@ -63,6 +63,41 @@ fn every_call_meets_every_refusal_it_can_give() {
     for (pair, count) in counts {
         assert!(count >= 8, "{pair:?} comes {count} times");
     }
+}
+
+/// What is wrong with a text's labels, in text order: 9 or 13.
+fn label_faults(text: &[u8]) -> Vec<u8> {
+    let runs = text.split(|byte| !byte.is_ascii_digit()).filter(|run| !run.is_empty());
+    let labels: Vec<&[u8]> = runs.collect();
+    let right: Vec<String> = (0..labels.len()).map(|label| label.to_string()).collect();
+    let mut unused: BTreeSet<&[u8]> = right.iter().map(|label| label.as_bytes()).collect();
+    let mut faults = Vec::new();
+    for label in labels {
+        if !right.iter().any(|other| other.as_bytes() == label) {
+            faults.push(9);
+        } else if !unused.remove(label) {
+            faults.push(13);
+        }
+    }
+    faults
+}
+
+/// Of texts with faults of both kinds, either one is the first often enough, and told.
+#[test]
+fn labels_at_fault_come_in_either_order() {
+    let mut firsts = BTreeMap::new();
+    for (case, answer, _) in all().iter() {
+        let (Case::FromNewick { text, .. }, Refused(refusal)) = (case, answer) else { continue };
+        if ![9, 13].contains(&refusal.number) {
+            continue;
+        }
+        let faults = label_faults(text);
+        assert_eq!(faults[0], refusal.number);
+        if faults.iter().any(|&fault| fault != faults[0]) {
+            *firsts.entry(faults[0]).or_insert(0) += 1;
+        }
+    }
+    assert!(firsts[&9] >= 100 && firsts[&13] >= 100, "{firsts:?}");
 }
 
 #[test]

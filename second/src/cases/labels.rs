@@ -1,9 +1,9 @@
-//! Cases of texts whose labels are at fault, of most several.
+//! Cases of texts whose labels are at fault, in most of them several.
 //!
 //! 02, CR 2: "9 is now only "not below n"; 13 is "used before"; label by label in text
-//! order, 9 before 13 at the same label." Damage: faults of both kinds in either order,
-//! one stray label twice, the first label again behind it, as many faults as there is
-//! room for, and at 1,024 leaves and above.
+//! order, 9 before 13 at the same label." Damage: one fault, faults of both kinds in
+//! either order, one stray label twice, the first label again behind it, up to six faults
+//! by chance, faults in the longest text, and 1,025 labels with faults among them.
 
 use super::chance::Chance;
 use super::{texts, vectors};
@@ -14,14 +14,13 @@ use crate::vector::MOST_LEAVES;
 type Kind = fn(&mut Chance, &mut [usize]);
 
 /// Each kind, the fewest labels that it wants, and how often it is used.
-const KINDS: [(Kind, usize, usize); 8] = [
+const KINDS: [(Kind, usize, usize); 7] = [
     (one_stray, 1, 60),
     (one_double, 2, 60),
     (stray_then_double, 3, 100),
     (double_then_stray, 3, 100),
     (one_stray_label_twice, 2, 60),
     (first_label_again, 2, 60),
-    (double_of_a_stray_place, 3, 60),
     (any_faults, 2, 150),
 ];
 
@@ -124,13 +123,6 @@ fn one_stray_label_twice(chance: &mut Chance, labels: &mut [usize]) {
 /// The first label is double only by a later one, which is the one to be told.
 fn first_label_again(chance: &mut Chance, labels: &mut [usize]) {
     labels[1 + chance.index(labels.len() - 1)] = labels[0];
-}
-
-/// The label that a stray one stands for is not missed: another one stands twice, too.
-fn double_of_a_stray_place(chance: &mut Chance, labels: &mut [usize]) {
-    let (first, second) = two_places(chance, labels.len());
-    labels[second] = labels[first];
-    labels[first] = stray(chance, labels.len());
 }
 
 fn any_faults(chance: &mut Chance, labels: &mut [usize]) {
