@@ -70,7 +70,9 @@ module _ (n i : ℕ) (used : List ℕ) (x : ℕ) (p : List ℕ) where
 
   pub value-step : permutationFault n i used (x ∷ p) ≡ cond (not (ltb x n) || member x used) (some i) (permutationFault n (i + 1) (x ∷ used) p)
   unfolding permutationFault
-  value-step = ap faultPlace (first-step n used (i, x) (placedFrom (i + 1) p)) ∙ go (not (ltb x n) || member x used) (firstFault n (x ∷ used) (placedFrom (i + 1) p))
+  value-step =
+      ap faultPlace (first-step n used (i, x) (placedFrom (i + 1) p))
+      ∙ go (not (ltb x n) || member x used) (firstFault n (x ∷ used) (placedFrom (i + 1) p))
     where
       go : (b : Bool) (behind : Option PlacedFault) → faultPlace (cond b (some (faultOf n x, i)) behind) ≡ cond b (some i) (faultPlace behind)
       go true behind = refl

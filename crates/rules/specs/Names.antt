@@ -12,7 +12,7 @@ pub data NameFault : Type 0 where
   not-below : NameFault
   used-before : NameFault
 
--- what is wrong with a name, behind the names used before it: not below n counts first
+-- what is wrong with a name, behind the names used before it; "9 before 13 at the same label": not below n counts first
 unfoldable pub nameFault : ℕ → List ℕ → ℕ → Option NameFault
 unfolding member
 nameFault n used x = cond (ltb x n) (cond (member x used) (some used-before) none) (some not-below)

@@ -4,7 +4,8 @@ use Rattle.accepting.specs.Kept.{refused-early, handed-on}
 use Rattle.rules.specs.CallFromNewick.{too-long}
 use Rattle.rules.specs.Guards.{labelNumber}
 use Rattle.label_faults.specs.Fault.{faultIs}
-use Rattle.text_vector.specs.Gives.{held-there}
+use Rattle.text_vector.specs.Gives.{Gives, held-there}
+use Rattle.text_vector.specs.declared.TextVector.the-variants.{Label}
 use borrow.Author.Needs.{needs}
 use Rattle.text_calls.proofs.from_newick.Statement.{statement}
 use Rattle.text_calls.proofs.from_newick.Tie as tie
@@ -72,21 +73,22 @@ returns-3 c =
     let F = rw (c .before .enum-told .given .1) at (c .before .before .before .before .read-vector .ensures) in
     refused-early _ F (c .refuse3 .ensures)
 
+-- what is told of a label at fault
+label-told : (c : tie.After-fault) → Gives (c .before .before .before .before .before .before .before .before .args .text .now)
+    (c .before .before .before .read-vector .last .1 .0) (Label (c .fault .given .0 .0))
+label-told c = rw (c .fault .given .1) at (c .before .before .before .read-vector .ensures)
+
 returns-4 : tie.Need-returns-4
 unfolding answers.reads answers.numberOf labelNumber faultIs
 returns-4 c =
     let told = c .before .before in
-    let at-fault = told .before .before .before in
-    let F = rw (at-fault .fault .given .1, told .fault2 .given .1) at (at-fault .before .before .before .read-vector .ensures) in
-    refused-early _ F (c .refuse4 .ensures)
+    refused-early _ (rw (told .fault2 .given .1) at (label-told (told .before .before .before))) (c .refuse4 .ensures)
 
 returns-5 : tie.Need-returns-5
 unfolding answers.reads answers.numberOf labelNumber faultIs
 returns-5 c =
     let told = c .before .before in
-    let at-fault = told .before .before .before in
-    let F = rw (at-fault .fault .given .1, told .fault3 .given .1) at (at-fault .before .before .before .read-vector .ensures) in
-    refused-early _ F (c .refuse5 .ensures)
+    refused-early _ (rw (told .fault3 .given .1) at (label-told (told .before .before .before))) (c .refuse5 .ensures)
 
 same-length : tie.Need-same-length
 same-length c = search needs
