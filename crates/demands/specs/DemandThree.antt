@@ -1,6 +1,6 @@
 -- Demand 3: two accepted inputs, in whatever notation, lead to the same vector exactly when they have the same clades, each worked out in its own
 -- notation; and every rooted binary tree with leaves 0 to n-1 is the tree of an accepted vector.
--- Main definition: CladeOf (Input and Leads are in Leads). Main results: led, demand-three, archived-as-packed, every-tree-has-a-vector.
+-- Main definitions: CladeOf (Input and Leads are in Leads), TextLeads. Main results: text-leads, led, demand-three, archived-as-packed, every-tree-has-a-vector.
 use mathlib.Core.Bool.{Bool}
 use mathlib.Core.List.{List}
 use mathlib.Core.Logic.{_⊎_, inl, inr, _↔_}
@@ -12,13 +12,14 @@ use lib.ListN.{length}
 use Rattle.rules.specs.Tree.{Tree, treeOf, LeavesBelow, Clade, SameClades}
 use Rattle.rules.specs.Order.{vectorOf}
 use Rattle.rules.specs.Table.{rowsOf, tableFault, tableTree, TableClade}
-use Rattle.rules.specs.Newick.{Text, labelsOf, labelFault}
+use Rattle.rules.specs.Newick.{labelsOf, labelFault}
+use Rattle.rules.specs.Sent.{SentText}
 use Rattle.rules.specs.Record.{leafCount, entriesOf}
 use Rattle.rules.specs.Archive.{packedAt}
 use Rattle.rules.specs.Answer.{Made, made, refuses}
 use Rattle.rules.specs.CallCheck.{check}
 use Rattle.rules.specs.CallFromTable.{fromTable}
-use Rattle.rules.specs.CallFromNewick.{FromText, too-long, breaks, reads-as, fromLabels}
+use Rattle.rules.specs.CallFromNewick.{NotLong, FromText, too-long, too-many-signs, breaks, reads-as, fromLabels}
 use Rattle.written_tables.specs.Flat.{rowsOf-length}
 use Rattle.read_tables.specs.Forest.{rows-make-a-tree}
 use Rattle.read_tables.specs.Clades.{rows-clades}
@@ -27,7 +28,8 @@ use Rattle.rules.specs.CallUnpack.{unpack}
 use Rattle.archive_laws.specs.AsPacked.{asPacked, thenPadding, read-as-packed}
 use Rattle.archive_laws.specs.Reader as tree
 use Rattle.archive_laws.specs.Reader.{read-vector}
-use Rattle.grammar.specs.Complete.{text-unique}
+use Rattle.blanks.specs.Breaks.{sent-unique}
+use Rattle.blanks.specs.Labels.{sent-labels}
 use Rattle.grammar.specs.Faults.{no-fault-leaves}
 use Rattle.searching.specs.First.{first-at, nowhere}
 use Rattle.accepting.specs.Answers.{made-not-refuses}
@@ -44,12 +46,12 @@ use Rattle.demands.specs.LawReadTree.{treeEntries}
 use Rattle.demands.specs.Leads.{Input, vector, table, text, packed, archived, Leads}
 use Rattle.demands.specs.DemandTwo.{Vector, accepted-exactly}
 
--- the clades of an input, worked out in its own notation: by the building rule; by the rows alone; by the grammar's brackets; by the bits' entries;
+-- the clades of an input, worked out in its own notation: by the building rule; by the rows alone; by the brackets of its signs; by the bits' entries;
 -- and in an archive by the entries in the bits of record r, with the archive's n before them
 abbrev pub CladeOf : Input → (ℕ → Bool) → Type 0
 CladeOf (vector v) c = Clade (treeOf v) c
 CladeOf (table n xs) c = TableClade n (rowsOf xs) c
-CladeOf (text s) c = (t : Tree) × Text s t × Clade t c
+CladeOf (text s) c = (t : Tree) × SentText s t × Clade t c
 CladeOf (packed s) c = Clade (treeOf (entriesOf (leafCount s) s)) c
 CladeOf (archived s r) c = Clade (treeOf (treeEntries s r)) c
 
@@ -96,34 +98,43 @@ led-table n xs w h =
     let R = rows-clades n (rowsOf xs) (g .2) (g .1) (g .0 .0) in
     rw (g .3) (record { vector-of = of-tree n T L (g .0 .1); clades = λ c. (λ x. same c .1 (R c .1 x), λ x. R c .0 (same c .0 x)) })
 
--- a text that is accepted: the tree that it reads as
-text-leads : (s w : List ℕ) (m : Made) → FromText s m → m ≡ made w → (t : Tree) × (n : ℕ) × Text s t × LeavesBelow n t × (n ≤ 1024) × (w ≡ vectorOf t)
+-- a text that is accepted, and the tree that it reads as
+pub record TextLeads (s w : List ℕ) : Type 0 where
+  pub tree : Tree
+  pub leaf-count : ℕ
+  pub short : NotLong s
+  pub reads-as-it : SentText s tree
+  pub leaves : LeavesBelow leaf-count tree
+  pub few : leaf-count ≤ 1024
+  pub vector-is : w ≡ vectorOf tree
+
+pub text-leads : (s w : List ℕ) (m : Made) → FromText s m → m ≡ made w → TextLeads s w
 text-leads s w m (too-long a) e = absurd (made-not-refuses (sym e))
+text-leads s w m (too-many-signs a b) e = absurd (made-not-refuses (sym e))
 text-leads s w m (breaks a b) e = absurd (made-not-refuses (sym e))
 text-leads s w m (reads-as t a b) e = go (count-cases (length (labelsOf s))) (label-cases s)
   where
     right : Accepted (TextRefused s)
     right = made-accepted _ _ _ (lawful-from-newick s) (fromLabels s t) (reads-as t a b) w e
 
-    go : CountWrong (length (labelsOf s)) ⊎ CountRight (length (labelsOf s)) → ((i : ℕ) × FirstUnfit s i) ⊎ (labelFault s ≡ none)
-        → (t : Tree) × (n : ℕ) × Text s t × LeavesBelow n t × (n ≤ 1024) × (w ≡ vectorOf t)
+    go : CountWrong (length (labelsOf s)) ⊎ CountRight (length (labelsOf s)) → ((i : ℕ) × FirstUnfit s i) ⊎ (labelFault s ≡ none) → TextLeads s w
     go (inl c) f = absurd (right 1 0 (text-1 a b c))
     go (inr c) (inl (i, f)) = let refused = label-refused s t i a b c f in absurd (right (refused .0) (labelPlace s i) (refused .1))
     go (inr c) (inr g) =
         let z : made w ≡ made (vectorOf t) = sym e ∙ labels-fit s t c g in
-        (t, length (labelsOf s), b, no-fault-leaves b g, c .1, cc)
+        record { tree = t; leaf-count = length (labelsOf s); short = a; reads-as-it = b; leaves = no-fault-leaves (sent-labels b) g; few = c .1; vector-is = cc }
 
 led-text : (s w : List ℕ) → Leads (text s) w → Led (text s) w
 unfolding SameClades
 led-text s w h =
     let g = text-leads s w (made w) h refl in
-    let same = every-tree (g .1) (g .0) (g .3) .clades in
-    rw (g .5)
+    let same = every-tree (g .leaf-count) (g .tree) (g .leaves) .clades in
+    rw (g .vector-is)
     (record {
-      vector-of = of-tree (g .1) (g .0) (g .3) (g .4);
+      vector-of = of-tree (g .leaf-count) (g .tree) (g .leaves) (g .few);
       clades = λ c. (
-        λ x. same c .1 (subst (λ (t : Tree). Clade t c) (text-unique (x .1) (g .2)) (x .2)),
-        λ x. (g .0, g .2, same c .0 x),
+        λ x. same c .1 (subst (λ (t : Tree). Clade t c) (sent-unique (x .1) (g .reads-as-it)) (x .2)),
+        λ x. (g .tree, g .reads-as-it, same c .0 x),
       );
     })
 

@@ -9,10 +9,11 @@ use Prim.Native.Nat.{ℕ, _≤_, _<_}
 use native.Mathlib.Omega.{arith}
 use lib.ListN.{length, getD}
 use Rattle.rules.specs.declared.Answer.{Answer}
-use Rattle.rules.specs.Tree.{treeOf}
+use Rattle.rules.specs.Tree.{Tree, treeOf, LeavesBelow}
 use Rattle.rules.specs.Order.{vectorOf}
 use Rattle.rules.specs.Table.{tableOf, rowsOf}
 use Rattle.rules.specs.Newick.{textOf, labelsOf}
+use Rattle.rules.specs.Sent.{SentText}
 use Rattle.rules.specs.Record.{field, bitsOf, recordOf}
 use Rattle.rules.specs.Archive.{bareRecord, archiveOf, packedAt}
 use Rattle.rules.specs.Shuffle.{renamed, newOf}
@@ -21,7 +22,7 @@ use Rattle.rules.specs.CallCheck.{check}
 use Rattle.rules.specs.CallToTable.{toTable}
 use Rattle.rules.specs.CallFromTable.{fromTable}
 use Rattle.rules.specs.CallToNewick.{toText}
-use Rattle.rules.specs.CallFromNewick.{FromText, reads-as}
+use Rattle.rules.specs.CallFromNewick.{NotLong, FromText, reads-as}
 use Rattle.rules.specs.CallPack.{pack}
 use Rattle.rules.specs.CallUnpack.{unpack}
 use Rattle.rules.specs.CallWriteArchive.{writeArchive}
@@ -33,6 +34,9 @@ use Rattle.archive_laws.specs.Written.{Trees, joined}
 use Rattle.archive_laws.specs.Writer.{Run}
 use Rattle.archive_laws.specs.Again.{written-then-read}
 use Rattle.archive_laws.specs.AsPacked.{asPacked, packed-of-bare}
+use Rattle.clades.specs.Size.{size-some, size-below}
+use Rattle.blanks.specs.Breaks.{plain-sent}
+use Rattle.blanks.specs.Labels.{sent-labels}
 use Rattle.grammar.specs.Faults.{leaves-no-fault, leaves-count}
 use Rattle.grammar.specs.Length.{text-length, text-length-most}
 use Rattle.laws.specs.TreeOf.{tree-leaves, vector-again}
@@ -81,16 +85,22 @@ table-back v W =
     rows-accepted (length v) (tableOf v) (W .valid .some-leaf) (W .few) (table-long v (W .valid)) (T .accepted)
     ∙ ap made (ap vectorOf (T .of-the-tree) ∙ vector-again v (W .valid))
 
+-- a text as sent that reads as a tree with leaves 0 to n-1 is accepted
+pub leaves-accepted : {s : List ℕ} {t : Tree} (n : ℕ) → NotLong s → SentText s t → LeavesBelow n t → n ≤ 1024 → FromText s (made (vectorOf t))
+leaves-accepted {s} {t} n short T L few =
+    let labels = sent-labels T in
+    let count : CountRight (length (labelsOf s)) = rw (leaves-count n labels L) (omega (arith, size-some t, size-below n t L), few) in
+    subst (FromText s) (labels-fit s t count (leaves-no-fault n labels L)) (reads-as t short T)
+
 -- a written text reads as the tree: each pair stands as it is written
 pub text-back : (v : List ℕ) → Vector v → FromText (textOf (treeOf v)) (made v)
 text-back v W =
     let L = tree-leaves v (W .valid) in
     let few = W .few in
-    let T = written-text v (W .valid) (W .few) .reads-as-the-tree in
-    let n : length (labelsOf (textOf (treeOf v))) ≡ length v = leaves-count (length v) T L in
+    let T = written-text v (W .valid) (W .few) in
     let short : length (textOf (treeOf v)) ≤ 6056 = omega (arith, text-length (length v) (treeOf v) L, text-length-most (length v) few) in
-    let count : CountRight (length (labelsOf (textOf (treeOf v)))) = rw n (W .valid .some-leaf, W .few) in
-    subst (FromText (textOf (treeOf v))) (labels-fit (textOf (treeOf v)) (treeOf v) count (leaves-no-fault (length v) T L) ∙ ap made (vector-again v (W .valid))) (reads-as (treeOf v) short T)
+    subst (FromText (textOf (treeOf v))) (ap made (vector-again v (W .valid)))
+    (leaves-accepted (length v) (omega arith, omega (arith, ap length (T .no-blank))) (plain-sent (T .reads-as-the-tree)) L few)
 
 pub record-back : (v : List ℕ) → Vector v → unpack (recordOf v) ≡ made v
 record-back v W = unpack-record v W

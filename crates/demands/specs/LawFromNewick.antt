@@ -12,13 +12,15 @@ use Rattle.rules.specs.Names.{NameFault, not-below, used-before, firstFault}
 use Rattle.rules.specs.Vector.{entry}
 use Rattle.rules.specs.Tree.{Tree}
 use Rattle.rules.specs.Order.{vectorOf}
-use Rattle.rules.specs.Newick.{Text, BreaksAt, labelsOf, labelFault}
+use Rattle.rules.specs.Newick.{BreaksAt, labelsOf, labelFault}
+use Rattle.rules.specs.Sent.{signs, SentText}
 use Rattle.rules.specs.Answer.{numberOf, Made, made, refuses}
 use Rattle.rules.specs.Guards.{labelNumber}
-use Rattle.rules.specs.CallFromNewick.{FromText, too-long, breaks, reads-as, fromLabels, from-newick-call}
+use Rattle.rules.specs.CallFromNewick.{NotLong, FromText, too-long, too-many-signs, breaks, reads-as, fromLabels, from-newick-call}
 use Rattle.basics.specs.Names.{faultOf, fault-large, fault-small}
-use Rattle.grammar.specs.Labels.{text-label-count}
-use Rattle.grammar.specs.Unique.{from-text-total, from-text-unique}
+use Rattle.grammar.specs.Labels.{label-count}
+use Rattle.blanks.specs.Labels.{sent-labels}
+use Rattle.blanks.specs.FromText.{from-text-total, from-text-unique}
 use Rattle.searching.specs.First.{FirstFound, first-at, nowhere, found-first}
 use Rattle.accepting.specs.Guards.{refuse-label, pass-label}
 use Rattle.demands.specs.Conditions.{CountWrong, CountRight, NotBelow, UsedBefore, Unfit, labelNumbers, labelPlace}
@@ -39,15 +41,17 @@ Double s i = UsedBefore (labelNumbers s) i
 abbrev pub FirstUnfit : List ℕ → ℕ → Type 0
 FirstUnfit s i = First (Unfit (length (labelsOf s)) (labelNumbers s)) i
 
--- "Text: 2 (above 6,056 bytes, place 6056), 8, 1", then "9 is now only "not below n"; 13 is "used before"; label by label in text order, 9 before 13 at
--- the same label"; 8 is given at BreaksAt's place
+-- "2 is now given first for a text above 65,536 bytes (place 65536), then for more than 6,056 bytes that aren't blanks (place 6056)"; "8, 1"; then "9 is
+-- now only "not below n"; 13 is "used before"; label by label in text order, 9 before 13 at the same label". 8 is given at BreaksAt's place; "Places of
+-- 8, 9 and 13 are in the bytes as sent."
 pub data TextRefused (s : List ℕ) : ℕ → ℕ → Type 0 where
-  text-2 : 6056 < length s → TextRefused s 2 6056
-  text-8 : {place : ℕ} → length s ≤ 6056 → BreaksAt s place → TextRefused s 8 place
-  text-1 : {t : Tree} → length s ≤ 6056 → Text s t → CountWrong (length (labelsOf s)) → TextRefused s 1 0
-  text-9 : {t : Tree} {i : ℕ} → length s ≤ 6056 → Text s t → CountRight (length (labelsOf s))
+  text-2 : 65536 < length s → TextRefused s 2 65536
+  text-2-signs : length s ≤ 65536 → 6056 < length (signs s) → TextRefused s 2 6056
+  text-8 : {place : ℕ} → NotLong s → BreaksAt SentText s place → TextRefused s 8 place
+  text-1 : {t : Tree} → NotLong s → SentText s t → CountWrong (length (labelsOf s)) → TextRefused s 1 0
+  text-9 : {t : Tree} {i : ℕ} → NotLong s → SentText s t → CountRight (length (labelsOf s))
       → FirstUnfit s i → Stray s i → TextRefused s 9 (labelPlace s i)
-  text-13 : {t : Tree} {i : ℕ} → length s ≤ 6056 → Text s t → CountRight (length (labelsOf s))
+  text-13 : {t : Tree} {i : ℕ} → NotLong s → SentText s t → CountRight (length (labelsOf s))
       → FirstUnfit s i → (Stray s i → ⊥) → Double s i → TextRefused s 13 (labelPlace s i)
 
 -- The first label at fault never is both: the label before it that is the same would be not below n, too. So the order at one label never tells.
@@ -68,7 +72,7 @@ labels-unfit s t i wrong c f e =
     (found-first (label-found (length (labelsOf s)) (labelsOf s)) i f (λ w. refl) ∙ ap (λ (w : NameFault). some (w, labelPlace s i)) e)
 
 -- the first label at fault is refused by one of the two
-pub label-refused : (s : List ℕ) (t : Tree) (i : ℕ) → length s ≤ 6056 → Text s t → CountRight (length (labelsOf s)) → FirstUnfit s i
+pub label-refused : (s : List ℕ) (t : Tree) (i : ℕ) → NotLong s → SentText s t → CountRight (length (labelsOf s)) → FirstUnfit s i
     → (number : ℕ) × TextRefused s number (labelPlace s i)
 label-refused s t i a b c f = go (f .0 .1)
   where
@@ -96,6 +100,7 @@ settled-from-text s m h = record { of-input = kinds; given = refused-so; total =
   where
     kinds : (k p : ℕ) → TextRefused s k p → OfInput 3 k
     kinds k p (text-2 a) = (InputLength, refl, omega arith)
+    kinds k p (text-2-signs a b) = (InputLength, refl, omega arith)
     kinds k p (text-8 a b) = (Grammar, refl, omega arith)
     kinds k p (text-1 a b c) = (LeafCount, refl, omega arith)
     kinds k p (text-9 a b c f stray) = (StrayLabel, refl, omega arith)
@@ -103,6 +108,7 @@ settled-from-text s m h = record { of-input = kinds; given = refused-so; total =
 
     makes : (k p : ℕ) → TextRefused s k p → FromText s (refuses k p)
     makes k p (text-2 a) = too-long a
+    makes k p (text-2-signs a b) = too-many-signs a b
     makes k p (text-8 a b) = breaks a b
     makes k p (text-1 {t} a b c) = subst (FromText s) (labels-wrong s t c) (reads-as t a b)
     makes k p (text-9 {t} {i} a b c f stray) = subst (FromText s) (labels-unfit s t i not-below c f (fault-large _ _ stray)) (reads-as t a b)
@@ -112,7 +118,8 @@ settled-from-text s m h = record { of-input = kinds; given = refused-so; total =
     refused-so k p r = from-text-unique h (makes k p r)
 
     go : {m : Made} → FromText s m → ((k : ℕ) × (p : ℕ) × TextRefused s k p) ⊎ ((ys : List ℕ) × (m ≡ made ys) × (length ys ≡ length (labelsOf s)))
-    go (too-long a) = inl (2, 6056, text-2 a)
+    go (too-long a) = inl (2, 65536, text-2 a)
+    go (too-many-signs a b) = inl (2, 6056, text-2-signs a b)
     go (breaks {place} a b) = inl (8, place, text-8 a b)
     go (reads-as t a b) = at (count-cases (length (labelsOf s))) (label-cases s)
       where
@@ -120,7 +127,7 @@ settled-from-text s m h = record { of-input = kinds; given = refused-so; total =
             → ((k : ℕ) × (p : ℕ) × TextRefused s k p) ⊎ ((ys : List ℕ) × (fromLabels s t ≡ made ys) × (length ys ≡ length (labelsOf s)))
         at (inl c) f = inl (1, 0, text-1 a b c)
         at (inr c) (inl (i, f)) = let refused = label-refused s t i a b c f in inl (refused .0, labelPlace s i, refused .1)
-        at (inr c) (inr e) = inr (vectorOf t, labels-fit s t c e, vector-long t ∙ sym (text-label-count b))
+        at (inr c) (inr e) = inr (vectorOf t, labels-fit s t c e, vector-long t ∙ sym (label-count (sent-labels b)))
 
 pub lawful-from-newick : (s : List ℕ) → Lawful (from-newick-call s) (TextRefused s) (length (labelsOf s))
 unfolding numberOf

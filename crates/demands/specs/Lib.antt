@@ -11,7 +11,7 @@
 -- "a refusal carries its number and place from the table,"
 --     DemandOne.refused-exactly: a call refuses with a number and a place exactly when the condition holds that 01 gives. There is a line for each
 --     number and each kind of input, in 01's order: LawVector.VectorRefused (1, 4), LawRelabel.RelabelRefused (then 2, 11),
---     LawFromTable.TableRefused (1, 2, rows upward with 5, 6, 7 in each), LawFromNewick.TextRefused (2, 8, 1, 9 and 13), LawUnpack.RecordRefused
+--     LawFromTable.TableRefused (1, 2, rows upward with 5, 6, 7 in each), LawFromNewick.TextRefused (2, 2, 8, 1, 9 and 13), LawUnpack.RecordRefused
 --     (2, 1, 2, 4, 10), LawWriteArchive.ArchiveRefused (1, 21, 2, 4), LawReadTree.TreeRefused (2, 1, 2, 12, 4, 10); "Of one number, the first place
 --     counts": rules First, Conditions.FirstRow. 3 comes last: room-exactly. No two conditions hold at once: one-refusal. Done: done-exactly, with
 --     the count.
@@ -24,7 +24,7 @@
 --     DemandTwo.demand-two: table-written, text-written, record-written: where there is room the call is done with the number of elements, the
 --     buffer holds the elements and behind them what it held. tree-turned-back: the vector of a valid vector's tree is that vector.
 --     table-of-the-tree: the rows make the vector's tree, in the order of merges, "the child with the smaller least leaf first" (WrittenTable).
---     text-of-the-tree: the text is one of the grammar and reads as that tree, the smaller least leaf first (WrittenText).
+--     text-of-the-tree: the text is one of the grammar and reads as that tree, the smaller least leaf first, with no blank (WrittenText).
 -- "turned back, each gives the vector it came from."
 --     DemandTwo.demand-two: table-turned-back, text-turned-back, record-turned-back; as equations of the rules: table-back, text-back,
 --     record-back. For all valid vectors of 1 to 1,024 entries.
@@ -35,7 +35,7 @@
 -- Demand 3. Accepted inputs of any notation "lead to the same vector exactly when they have the same clades";
 --     DemandThree.demand-three. Input has the five kinds, Leads says that one is accepted and to which vector it leads, which is the one that
 --     the public call leaves in the buffer (Leads.done-leads, leads-done). CladeOf has its clades, worked out in its own notation: by the
---     building rule, by the rows alone, by the grammar's brackets, by the entries in the bits, in an archive by those in the bits of record r.
+--     building rule, by the rows alone, by the brackets of a text's signs, by the entries in the bits, in an archive by those in the bits of record r.
 -- "every rooted binary tree with leaves 0 to n-1 .. is the tree of a vector".
 --     DemandThree.every-tree-has-a-vector, for n up to 1,024: the vector is accepted.
 --
@@ -67,6 +67,18 @@
 -- CR 2, a stray label and a double one. "9 is now only "not below n"; 13 is "used before"; label by label in text order, 9 before 13 at the same label."
 --     LawFromNewick.TextRefused, text-9 and text-13, in DemandOne.refused-exactly: FirstUnfit is the first label at fault, by either of the two, Stray
 --     and Double are the two. The first label at fault never is both: not-both.
+--
+-- CR 3, blanks in a text. "Accept spaces, tabs, carriage returns and line feeds anywhere except inside a label"
+--     Blanks.blanks-anywhere: bytes that have the signs of an accepted text, and no blank inside a label, lead to the same vector.
+-- "Places of 8, 9 and 13 are in the bytes as sent."
+--     LawFromNewick.TextRefused, text-8, text-9 and text-13: rules Newick.BreaksAt SentText and labelsOf are of the bytes as sent.
+-- "The writer still writes none."
+--     DemandTwo.demand-two: text-of-the-tree, no-blank of WrittenText.
+-- "Demand 3 reads such a text as its signs without blanks."
+--     Blanks.text-as-signs: an accepted text leads where its signs lead, and has their clades; same-signs-same-vector: two accepted texts that differ
+--     in blanks only lead to the same vector.
+-- "2 is now given first for a text above 65,536 bytes (place 65536), then for more than 6,056 bytes that aren't blanks (place 6056)."
+--     LawFromNewick.TextRefused, text-2 and text-2-signs.
 --
 -- The other files are on the way there: FirstPlace, FirstEntry and FirstWrongRow (the searches of the rules find the first place), Cases (each condition
 -- holds or not), Law (demand 1 for any call), Law* (when each call refuses, and that it makes what is wanted), Long (how many elements that is),
@@ -101,6 +113,7 @@ pub mod View
 pub mod Depends
 pub mod Leads
 pub mod DemandThree
+pub mod Blanks
 pub mod EachCall
 pub mod Tight
 pub mod TightByThree

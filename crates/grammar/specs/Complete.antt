@@ -90,7 +90,7 @@ pub text-unique : {s : List ℕ} {t u : Tree} → Text s t → Text s u → t �
 text-unique a b = read-tree (sym (complete-text a) ∙ complete-text b)
 
 -- where the reader breaks off, the grammar is broken
-pub breaks-at : (s r : List ℕ) → textRead s ≡ broken r → BreaksAt s (length s - length r)
+pub breaks-at : (s r : List ℕ) → textRead s ≡ broken r → BreaksAt Text s (length s - length r)
 unfolding Begins
 breaks-at s r e = go r (subst (Outcome textRead Text s) e (sound-text s)) e
   where
@@ -102,17 +102,17 @@ breaks-at s r e = go r (subst (Outcome textRead Text s) e (sound-text s)) e
     not-read : (r′ : List ℕ) (t : Tree) → read [] t ≡ broken r′ → ⊥
     not-read r′ t q = let z : _≡_ {A = ℕ} 0 1 = cc in omega arith
 
-    go : (r : List ℕ) → Breaks textRead Text s r → textRead s ≡ broken r → BreaksAt s (length s - length r)
+    go : (r : List ℕ) → Breaks textRead Text s r → textRead s ≡ broken r → BreaksAt Text s (length s - length r)
     go [] b q =
         let p : s ≡ b .bytes = b .split ∙ append-nil (b .bytes) in
         let k : length s - 0 ≡ length s = omega arith in
-        rw k (ended (subst Begins (sym p) (b .rest, b .tree, b .good)) (λ t x. not-read [] t (sym (complete-text x) ∙ q)))
+        rw k (ended (subst (Begins Text) (sym p) (b .rest, b .tree, b .good)) (λ t x. not-read [] t (sym (complete-text x) ∙ q)))
     go (c ∷ r) b q =
         let l : length s ≡ length (b .bytes) + suc (length r) = ap length (b .split) ∙ length-append (b .bytes) (c ∷ r) in
         let k : length s - length (c ∷ r) ≡ length (b .bytes) = omega arith in
         rw k
         (breaks {k = length (b .bytes)} (omega arith)
-        (subst Begins (sym (ap (take (length (b .bytes))) (b .split) ∙ take-append-seam (b .bytes) (c ∷ r))) (b .rest, b .tree, b .good))
+        (subst (Begins Text) (sym (ap (take (length (b .bytes))) (b .split) ∙ take-append-seam (b .bytes) (c ∷ r))) (b .rest, b .tree, b .good))
         (λ x. not-read (c ∷ x .0) (x .1)
         (sym (complete-text (x .2)) ∙ ap textRead (ap (λ (y : List ℕ). y ++ x .0) (one-more (b .bytes) r c (b .split)) ∙ append-snoc (b .bytes) c (x .0)) ∙ b .alike (c ∷ x .0) refl)))
 
@@ -141,12 +141,12 @@ nothing-left s r t e = first (nodeRead levels s) e
     first (broken b) q = absurd (no-broken b r t q)
 
 -- every list of bytes is a text or breaks the grammar at a place
-pub decided : (s : List ℕ) → ((t : Tree) × Text s t) ⊎ ((k : ℕ) × BreaksAt s k)
+pub decided : (s : List ℕ) → ((t : Tree) × Text s t) ⊎ ((k : ℕ) × BreaksAt Text s k)
 decided s = go (textRead s) refl (sound-text s)
   where
     all : (r : List ℕ) (t : Tree) → textRead s ≡ read r t → Reads textRead Text s r t → Text s t
     all r t e a = subst (λ (x : List ℕ). Text x t) (sym (a .split ∙ ap (λ (x : List ℕ). a .bytes ++ x) (nothing-left s r t e) ∙ append-nil (a .bytes))) (a .good)
 
-    go : (o : Reading) → textRead s ≡ o → Outcome textRead Text s o → ((t : Tree) × Text s t) ⊎ ((k : ℕ) × BreaksAt s k)
+    go : (o : Reading) → textRead s ≡ o → Outcome textRead Text s o → ((t : Tree) × Text s t) ⊎ ((k : ℕ) × BreaksAt Text s k)
     go (read r t) e a = inl (t, all r t e a)
     go (broken r) e a = inr (length s - length r, breaks-at s r e)

@@ -1,4 +1,4 @@
--- No label of a text is at fault exactly when the leaves of its tree are 0 to n-1, each once.
+-- No label of bytes that are labelled as a tree is at fault exactly when the leaves of its tree are 0 to n-1, each once.
 -- Main definitions: usedBy. Main results: no-fault-leaves, leaves-no-fault.
 use mathlib.Core.Path.{_≡_, refl, ap, sym, _∙_}
 use mathlib.Core.Bool.{Bool, true, false, cond, _||_, not, true≢false}
@@ -11,13 +11,13 @@ use lib.ListN.{length}
 use borrow.Author.Tests.{eq-eqb, eqb-true, lt-ltb, ltb-true}
 use Rattle.rules.specs.Building.{member}
 use Rattle.rules.specs.Names.{Placed, PlacedFault, firstFault}
-use Rattle.rules.specs.Newick.{Text, labelsOf, labelFault}
+use Rattle.rules.specs.Newick.{labelsOf, labelFault}
 use Rattle.rules.specs.Tree.{Tree, leaf, node, has, Distinct, LeavesBelow}
 use Rattle.basics.specs.Bools.{or-no}
 use Rattle.basics.specs.Names.{faultOf, first-step}
 use Rattle.clades.specs.Leaves.{has-left, has-right, has-cases}
 use Rattle.clades.specs.Size.{every-leaf, size-below}
-use Rattle.grammar.specs.Labels.{value, leavesOf, text-labels, text-label-count}
+use Rattle.grammar.specs.Labels.{value, leavesOf, LabelledAs, label-count}
 
 -- the first fault among labels without their places: is there none?
 unfoldable pub fits : ℕ → List ℕ → List ℕ → Bool
@@ -130,23 +130,23 @@ is-none none e = refl
 is-none (some x) e = absurd (true≢false (sym e))
 
 -- labels without a fault are the leaves 0 to n-1
-pub no-fault-leaves : {s : List ℕ} {t : Tree} → Text s t → labelFault s ≡ none → LeavesBelow (length (labelsOf s)) t
+pub no-fault-leaves : {s : List ℕ} {t : Tree} → LabelledAs s t → labelFault s ≡ none → LeavesBelow (length (labelsOf s)) t
 unfolding labelFault
 no-fault-leaves {s} {t} h e =
     let n : ℕ = length (labelsOf s) in
     let f : fits n [] (leavesOf t ++ []) ≡ true =
-    ap (fits n []) (append-nil (leavesOf t) ∙ sym (text-labels h)) ∙ sym (fault-fits n [] (labelsOf s)) ∙ ap isNone e in
+    ap (fits n []) (append-nil (leavesOf t) ∙ sym (h .leaves)) ∙ sym (fault-fits n [] (labelsOf s)) ∙ ap isNone e in
     let g : Fitting n [] t = fit-leaves n t [] [] f .0 in
-    every-leaf n t (g .once) (g .small) (sym (text-label-count h))
+    every-leaf n t (g .once) (g .small) (sym (label-count h))
 
 -- and the leaves 0 to n-1 are labels without a fault
-pub leaves-count : {s : List ℕ} {t : Tree} (n : ℕ) → Text s t → LeavesBelow n t → length (labelsOf s) ≡ n
-leaves-count {s} {t} n h b = text-label-count h ∙ size-below n t b
+pub leaves-count : {s : List ℕ} {t : Tree} (n : ℕ) → LabelledAs s t → LeavesBelow n t → length (labelsOf s) ≡ n
+leaves-count {s} {t} n h b = label-count h ∙ size-below n t b
 
-pub leaves-no-fault : {s : List ℕ} {t : Tree} (n : ℕ) → Text s t → LeavesBelow n t → labelFault s ≡ none
+pub leaves-no-fault : {s : List ℕ} {t : Tree} (n : ℕ) → LabelledAs s t → LeavesBelow n t → labelFault s ≡ none
 unfolding labelFault member fits
 leaves-no-fault {s} {t} n h b =
     let g : Fitting n [] t = record { once = b .once; small = λ x e. ltb-true x n (sym (b .all x) ∙ e); fresh = λ x e. refl } in
     is-none (firstFault (length (labelsOf s)) [] (labelsOf s))
     (fault-fits (length (labelsOf s)) [] (labelsOf s)
-    ∙ rw (leaves-count n h b) (ap (fits n []) (text-labels h ∙ sym (append-nil (leavesOf t))) ∙ leaves-fit n t [] [] g))
+    ∙ rw (leaves-count n h b) (ap (fits n []) (h .leaves ∙ sym (append-nil (leavesOf t))) ∙ leaves-fit n t [] [] g))

@@ -1,5 +1,5 @@
 -- The labels of a node's bytes are the leaves of its tree from left to right, each at the place of its first byte.
--- Main definitions: leavesOf. Main results: labels-behind, label-labels, pair-labels, node-labels, text-labels.
+-- Main definitions: leavesOf, LabelledAs. Main results: labels-behind, label-labels, pair-labels, node-labels, text-labels, label-count.
 use mathlib.Core.Path.{_≡_, refl, ap, ap₂, sym, _∙_}
 use mathlib.Core.Bool.{true, false, cond}
 use mathlib.Core.List.{List, [], _∷_, _++_, append-nil, map}
@@ -91,8 +91,12 @@ end-leaves : {d : ℕ} {b : List ℕ} {t : Tree} → Node d b t → map value (l
 unfolding labelsOf
 end-leaves {d} {b} n = ap (map value) (end-labels 0 b) ∙ node-labels n 0
 
-pub text-labels : {s : List ℕ} {t : Tree} → Text s t → map value (labelsOf s) ≡ leavesOf t
-text-labels (text n) = end-leaves n
+-- the labels of the bytes are the leaves of the tree, from left to right
+pub record LabelledAs (s : List ℕ) (t : Tree) : Type 0 where
+  pub leaves : map value (labelsOf s) ≡ leavesOf t
 
-pub text-label-count : {s : List ℕ} {t : Tree} → Text s t → length (labelsOf s) ≡ size t
-text-label-count {s} {t} h = sym (length-map (labelsOf s) value) ∙ ap length (text-labels h) ∙ leaves-size t
+pub text-labels : {s : List ℕ} {t : Tree} → Text s t → LabelledAs s t
+text-labels (text n) = record { leaves = end-leaves n }
+
+pub label-count : {s : List ℕ} {t : Tree} → LabelledAs s t → length (labelsOf s) ≡ size t
+label-count {s} {t} h = sym (length-map (labelsOf s) value) ∙ ap length (h .leaves) ∙ leaves-size t

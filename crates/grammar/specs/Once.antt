@@ -12,10 +12,10 @@ use lib.ListN.{length, length-append}
 use borrow.Author.Tests.{eqb-true, eq-eqb, lt-ltb}
 use Rattle.rules.specs.Building.{member}
 use Rattle.rules.specs.Names.{firstFault}
-use Rattle.rules.specs.Newick.{Text, labelsOf, labelFault}
+use Rattle.rules.specs.Newick.{labelsOf, labelFault}
 use Rattle.rules.specs.Tree.{Tree, leaf, node, has}
 use Rattle.clades.specs.Leaves.{has-cases}
-use Rattle.grammar.specs.Labels.{leavesOf, text-labels}
+use Rattle.grammar.specs.Labels.{value, leavesOf, LabelledAs}
 use Rattle.grammar.specs.Faults.{fits, fault-fits, is-none}
 use lib.ListN.{length-map}
 
@@ -116,11 +116,11 @@ has-member (node l r) x h =
     right true e = refl
     right false e = e
 
--- a text of n labels whose tree has each of the leaves 0 to n-1 has no label at fault
-pub each-leaf-no-fault : {s : List ℕ} {t : Tree} → Text s t → ((x : ℕ) → x < length (labelsOf s) → has t x ≡ true) → labelFault s ≡ none
+-- bytes of n labels, labelled as a tree that has each of the leaves 0 to n-1, have no label at fault
+pub each-leaf-no-fault : {s : List ℕ} {t : Tree} → LabelledAs s t → ((x : ℕ) → x < length (labelsOf s) → has t x ≡ true) → labelFault s ≡ none
 unfolding labelFault member
 each-leaf-no-fault {s} {t} h c =
     let n : ℕ = length (labelsOf s) in
-    let e : length (leavesOf t) ≡ n = sym (ap length (text-labels h)) ∙ length-map (labelsOf s) Rattle.grammar.specs.Labels.value in
+    let e : length (leavesOf t) ≡ n = sym (ap length (h .leaves)) ∙ length-map (labelsOf s) value in
     is-none (firstFault n [] (labelsOf s))
-    (fault-fits n [] (labelsOf s) ∙ ap (fits n []) (text-labels h) ∙ covers-fit n [] (leavesOf t) (λ x i. has-member t x (c x i)) (omega arith))
+    (fault-fits n [] (labelsOf s) ∙ ap (fits n []) (h .leaves) ∙ covers-fit n [] (leavesOf t) (λ x i. has-member t x (c x i)) (omega arith))

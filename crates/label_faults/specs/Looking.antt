@@ -15,7 +15,7 @@ use Rattle.rules.specs.Names.{NameFault, not-below, used-before, Placed, firstF
 use Rattle.rules.specs.Newick.{isDigit, withDigit, ending, labelsFrom, labelsOf}
 use Rattle.basics.specs.Flagged.{Flagged, flagged-none, flagged-next, name-free, name-taken}
 use Rattle.basics.specs.Names.{name-large, fault-small, first-fine, first-wrong, first-step}
-use Rattle.text_laws.specs.Cells.{Blank}
+use Rattle.text_laws.specs.Cells.{AllZero}
 
 -- the label being read, if one is: its place and its number so far
 unfoldable pub reading : Bool → ℕ → ℕ → Option Placed
@@ -54,7 +54,7 @@ pub record Looking (s : List ℕ) (n : ℕ) (used : List ℕ) (at : ℕ) (inside
   pub marks : Flagged seen used
   pub rest : firstFault n [] (labelsOf s) ≡ firstFault n seen (labelsFrom at (reading inside start x) (drop at s))
 
-pub look-start : {s : List ℕ} {n : ℕ} {used : List ℕ} → n ≤ 1024 → length used ≡ 1024 → Blank used → Looking s n used 0 false 0 0
+pub look-start : {s : List ℕ} {n : ℕ} {used : List ℕ} → n ≤ 1024 → length used ≡ 1024 → AllZero used → Looking s n used 0 false 0 0
 unfolding reading labelsOf
 look-start h r u = record { seen = []; few = h; within = omega arith; small = λ q. absurd (true≢false (sym q)); marks = flagged-none r (λ y l. u y); rest = refl }
 

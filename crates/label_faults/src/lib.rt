@@ -9,7 +9,7 @@ ghost use mathlib.Core.List.{[]};
 ghost use lib.ListN.{length};
 ghost use Rattle.rules.specs.Names.{firstFault};
 ghost use Rattle.rules.specs.Newick.{isDigit, labelsOf};
-ghost use Rattle.text_laws.specs.Cells.{Blank};
+ghost use Rattle.text_laws.specs.Cells.{AllZero};
 ghost use Rattle.label_faults.specs.Marks.{EachOnce};
 ghost use Rattle.label_faults.specs.Fault.{faultIs};
 ghost use Rattle.label_faults.specs.Looking.{nextStart, nextNumber};
@@ -66,7 +66,7 @@ fn next_number(inside: bool, x: usize, c: u8) -> usize
 // Looks at the bytes one by one. A label that reaches n is stray whatever digits follow. Where no label before the bytes' end is at fault,
 // the one that ends there is; it is below n, so it is double.
 fn look(s: &[u8], n: usize, used: &mut [u8]) -> LabelFault
-    requires { ⌜ (n ≤ 1024) × (length (now used) ≡ 1024) × Blank (now used) × (firstFault n [] (labelsOf (now s)) ≡ none → ⊥) ⌝ }
+    requires { ⌜ (n ≤ 1024) × (length (now used) ≡ 1024) × AllZero (now used) × (firstFault n [] (labelsOf (now s)) ≡ none → ⊥) ⌝ }
     ensures { λ r. ⌜ some (faultIs r) ≡ firstFault n [] (labelsOf (now (s .entry))) ⌝ }
 {
     let mut inside = false;

@@ -5,6 +5,7 @@ pub mod Tree
 pub mod Order
 pub mod Table
 pub mod Newick
+pub mod Sent
 pub mod Record
 pub mod Shuffle
 pub mod Answer

@@ -65,14 +65,16 @@ levels = 1023
 pub data Text : List ℕ → Tree → Type 0 where
   text : {s : List ℕ} {t : Tree} → Node levels s t → Text (s ++ (59 ∷ [])) t
 
+-- Which bytes are a text T says, and the tree that they read as: Text, or SentText of texts as sent.
+
 -- some text begins with these bytes
-unfoldable pub Begins : List ℕ → Type 0
-Begins s = (rest : List ℕ) × (t : Tree) × Text (s ++ rest) t
+unfoldable pub Begins : (List ℕ → Tree → Type 0) → List ℕ → Type 0
+Begins T s = (rest : List ℕ) × (t : Tree) × T (s ++ rest) t
 
 -- The place of refusal 8: "first byte such that no text begins with the bytes up to and including it; the length if it ends early"
-pub data BreaksAt (s : List ℕ) : ℕ → Type 0 where
-  broken : {k : ℕ} → k < length s → Begins (take k s) → (Begins (take (suc k) s) → ⊥) → BreaksAt s k
-  ended : Begins s → ((t : Tree) → Text s t → ⊥) → BreaksAt s (length s)
+pub data BreaksAt (T : List ℕ → Tree → Type 0) (s : List ℕ) : ℕ → Type 0 where
+  broken : {k : ℕ} → k < length s → Begins T (take k s) → (Begins T (take (suc k) s) → ⊥) → BreaksAt T s k
+  ended : Begins T s → ((t : Tree) → T s t → ⊥) → BreaksAt T s (length s)
 
 -- A label of a text is placed at its first byte.
 

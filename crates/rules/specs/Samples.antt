@@ -7,7 +7,7 @@ use mathlib.Core.List.{List, [], _∷_, _++_, map, flatMap}
 use mathlib.Core.Option.{Option, none, some}
 use mathlib.Core.Path.{_≡_, refl}
 use Prim.Native.Char.{code}
-use Prim.Native.Nat.{ℕ, zero, suc, _≤_, _<_}
+use Prim.Native.Nat.{ℕ, zero, suc, compare, _≤_, _<_}
 use Prim.Native.String.{String, [] as []ˢ, _∷_ as _∷ˢ_}
 use native.Mathlib.Bridge.{le-by-compare, IsLe}
 use native.Mathlib.Omega.{arith}
@@ -16,10 +16,11 @@ use lib.ListN.{length, replicate}
 use Rattle.rules.specs.First.{First}
 use Rattle.rules.specs.Building.{Merge, State, below, start, next, merge, merges}
 use Rattle.rules.specs.Vector.{entry, bound, Valid}
-use Rattle.rules.specs.Tree.{leaf, treeOf}
+use Rattle.rules.specs.Tree.{Tree, leaf, treeOf}
 use Rattle.rules.specs.Order.{listed, vectorOf}
 use Rattle.rules.specs.Table.{tableOf}
-use Rattle.rules.specs.Newick.{pairText, allDigits, valueFrom, nought, number, Node, label, pair, text}
+use Rattle.rules.specs.Newick.{pairText, allDigits, valueFrom, nought, number, Node, label, pair, Text, text, BreaksAt}
+use Rattle.rules.specs.Sent.{signs, parted, SentText}
 use Rattle.rules.specs.Record.{total, recordOf}
 use Rattle.rules.specs.Answer.{Outcome, done, refused, Making, Made, made, refuses}
 use Rattle.rules.specs.Promise.{Call, answers, holds}
@@ -28,7 +29,7 @@ use Rattle.rules.specs.CallCheck.{check, check-call}
 use Rattle.rules.specs.CallToTable.{toTable}
 use Rattle.rules.specs.CallFromTable.{fromTable}
 use Rattle.rules.specs.CallToNewick.{toText}
-use Rattle.rules.specs.CallFromNewick.{fromLabels, FromText, reads-as, from-newick-call}
+use Rattle.rules.specs.CallFromNewick.{fromLabels, FromText, breaks, reads-as, from-newick-call}
 use Rattle.rules.specs.CallPack.{pack, pack-call}
 use Rattle.rules.specs.CallUnpack.{unpack}
 use Rattle.rules.specs.CallShuffle.{shuffle, shuffle-call}
@@ -107,18 +108,25 @@ node-3 : {d : ℕ} → Node d (51 ∷ []) (leaf 3)
 unfolding allDigits valueFrom
 node-3 = digit 51 refl refl
 
+-- what few bytes make that break the grammar, or are a text as sent; that they are few is computed
+pub breaks-few : {s : List ℕ} {k : ℕ} → IsLe (compare (length s) 65536) → IsLe (compare (length (signs s)) 6056) → BreaksAt SentText s k → FromText s (refuses 8 k)
+breaks-few {s} a b h = breaks (le-by-compare (length s) 65536 a, le-by-compare (length (signs s)) 6056 b) h
+
+pub reads-few : {s : List ℕ} {t : Tree} → IsLe (compare (length s) 65536) → IsLe (compare (length (signs s)) 6056) → parted s ≡ false → Text (signs s) t → FromText s (fromLabels s t)
+reads-few {s} {t} a b w r = reads-as t (le-by-compare (length s) 65536 a, le-by-compare (length (signs s)) 6056 b) (record { reads = r; whole = w })
+
 -- the marked samples, one statement
 samples-hold : Each marked × Hold tables × Hold shuffles
-unfolding toText fromLabels pack unpack toTable fromTable shuffle relabel pairText IsLe
+unfolding toText fromLabels pack unpack toTable fromTable shuffle relabel pairText signs parted IsLe
 samples-hold = (
-  line refl (reads-as _ (le-by-compare 2 6056 tt) (text node-0)) (packs refl refl)
-      (line refl (reads-as _ (le-by-compare 6 6056 tt) (text (pair node-0 node-1))) (packs refl refl)
-      (line refl (reads-as _ (le-by-compare 10 6056 tt) (text (pair (pair node-0 node-1) node-2))) (packs refl refl)
-      (line refl (reads-as _ (le-by-compare 14 6056 tt) (text (pair node-0 (pair node-1 (pair node-2 node-3))))) no-record
-      (line refl (reads-as _ (le-by-compare 14 6056 tt) (text (pair (pair node-0 (pair node-1 node-2)) node-3))) (packs refl refl)
-      (line refl (reads-as _ (le-by-compare 14 6056 tt) (text (pair (pair node-0 (pair node-1 node-3)) node-2))) (packs refl refl)
-      (line refl (reads-as _ (le-by-compare 14 6056 tt) (text (pair node-0 (pair (pair node-1 node-2) node-3)))) no-record
-      (line refl (reads-as _ (le-by-compare 14 6056 tt) (text (pair (pair node-0 node-1) (pair node-2 node-3)))) no-record
+  line refl (reads-few tt tt refl (text node-0)) (packs refl refl)
+      (line refl (reads-few tt tt refl (text (pair node-0 node-1))) (packs refl refl)
+      (line refl (reads-few tt tt refl (text (pair (pair node-0 node-1) node-2))) (packs refl refl)
+      (line refl (reads-few tt tt refl (text (pair node-0 (pair node-1 (pair node-2 node-3))))) no-record
+      (line refl (reads-few tt tt refl (text (pair (pair node-0 (pair node-1 node-2)) node-3))) (packs refl refl)
+      (line refl (reads-few tt tt refl (text (pair (pair node-0 (pair node-1 node-3)) node-2))) (packs refl refl)
+      (line refl (reads-few tt tt refl (text (pair node-0 (pair (pair node-1 node-2) node-3)))) no-record
+      (line refl (reads-few tt tt refl (text (pair (pair node-0 node-1) (pair node-2 node-3)))) no-record
       end))))))),
   refl,
   refl,
@@ -156,13 +164,13 @@ checks =
 -- of the refused texts those that the grammar takes; TextSamples has the others
 refused-hold : Hold checks × (unpack (0x00 ∷ 0x41 ∷ []) ≡ refuses 10 1) × FromText (bytes "(0,0);") (refuses 13 3)
     × FromText (bytes "5;") (refuses 9 0) × FromText (bytes "1;") (refuses 9 0)
-unfolding check unpack fromLabels pairText IsLe allDigits valueFrom
+unfolding check unpack fromLabels pairText signs parted IsLe allDigits valueFrom
 refused-hold = (
   refl,
   refl,
-  reads-as _ (le-by-compare 6 6056 tt) (text (pair node-0 node-0)),
-  reads-as _ (le-by-compare 2 6056 tt) (text (digit 53 refl refl)),
-  reads-as _ (le-by-compare 2 6056 tt) (text node-1),
+  reads-few tt tt refl (text (pair node-0 node-0)),
+  reads-few tt tt refl (text (digit 53 refl refl)),
+  reads-few tt tt refl (text node-1),
 )
 
 -- Worked by hand from 01's words: every entry at its bound, so that each leaf is beside all the smaller ones, and a label of two digits;
@@ -182,12 +190,12 @@ worked =
     ∷ []
 
 worked-hold : Each bounds × Hold queued × Hold worked
-unfolding toText fromLabels pack unpack shuffle relabel pairText IsLe allDigits valueFrom
+unfolding toText fromLabels pack unpack shuffle relabel pairText signs parted IsLe allDigits valueFrom
 worked-hold =
     let to-5 = pair (pair (pair (pair (pair node-0 node-1) node-2) node-3) (digit 52 refl refl)) (digit 53 refl refl) in
     let to-9 = pair (pair (pair (pair to-5 (digit 54 refl refl)) (digit 55 refl refl)) (digit 56 refl refl)) (digit 57 refl refl) in
     let ten = label (number 49 (48 ∷ []) refl refl (le-by-compare 1 3 tt)) in
-    (line refl (reads-as _ (le-by-compare 43 6056 tt) (text (pair to-9 ten))) (packs refl refl) end, refl, refl)
+    (line refl (reads-few tt tt refl (text (pair to-9 ten))) (packs refl refl) end, refl, refl)
 
 -- Where two refusals would do, 01's "Order" decides; and each way in which one number is refused.
 abbrev orders : List (Line (List ℕ))

@@ -1,5 +1,5 @@
--- Samples of the grammar: numbers in decimal, 01's refused texts, long and deep ones.
--- Main results: decimals, signs, wrong-labels, several-faults, broken-texts, long-texts, levels-hold.
+-- Samples of the grammar: numbers in decimal, 01's refused texts, texts with blanks, long and deep ones.
+-- Main results: decimals, digits-hold, blanks-hold, wrong-labels, several-faults, broken-texts, blank-texts, long-texts, levels-hold.
 use mathlib.Core.Bool.{true, false, false≢true}
 use mathlib.Core.Logic.{_≢_}
 use mathlib.Core.List.{List, [], _∷_, _++_, map, append-assoc}
@@ -12,9 +12,10 @@ use lib.ListN.{length, getD, replicate, length-append}
 use Rattle.rules.specs.Names.{not-below, used-before, nameFault}
 use Rattle.rules.specs.Tree.{Tree, leaf, node}
 use Rattle.rules.specs.Newick.{pairText, textOf, isDigit, allDigits, valueFrom, nought, number, Node, label, pair, Text, text, Begins, broken, ended, labelsOf, labelFault}
-use Rattle.rules.specs.Answer.{refuses}
-use Rattle.rules.specs.CallFromNewick.{fromLabels, FromText, too-long, breaks, reads-as}
-use Rattle.rules.specs.Samples.{bytes, node-0, node-1, digit}
+use Rattle.rules.specs.Sent.{blank, signs, parted, SentText}
+use Rattle.rules.specs.Answer.{made, refuses}
+use Rattle.rules.specs.CallFromNewick.{fromLabels, FromText, too-long, too-many-signs}
+use Rattle.rules.specs.Samples.{bytes, node-0, node-1, digit, breaks-few, reads-few}
 
 -- numbers in decimal
 decimals : map (λ x. textOf (leaf x)) (0 ∷ 9 ∷ 10 ∷ 99 ∷ 100 ∷ 999 ∷ 1000 ∷ 1023 ∷ []) ≡ map bytes ("0;" ∷ "9;" ∷ "10;" ∷ "99;" ∷ "100;" ∷ "999;" ∷ "1000;" ∷ "1023;" ∷ [])
@@ -22,10 +23,16 @@ unfolding textOf
 decimals = refl
 
 -- which bytes are digits, and which labels they make
-signs : (map isDigit (47 ∷ 48 ∷ 57 ∷ 58 ∷ []) ≡ false ∷ true ∷ true ∷ false ∷ []) × (map allDigits ((49 ∷ 44 ∷ []) ∷ (44 ∷ 49 ∷ []) ∷ []) ≡ false ∷ false ∷ [])
+digits-hold : (map isDigit (47 ∷ 48 ∷ 57 ∷ 58 ∷ []) ≡ false ∷ true ∷ true ∷ false ∷ []) × (map allDigits ((49 ∷ 44 ∷ []) ∷ (44 ∷ 49 ∷ []) ∷ []) ≡ false ∷ false ∷ [])
     × (labelsOf (bytes "(12,345);") ≡ (1, 12) ∷ (4, 345) ∷ [])
 unfolding isDigit allDigits labelsOf
-signs = (refl, refl, refl)
+digits-hold = (refl, refl, refl)
+
+-- which bytes are blanks: not the vertical tab, the form feed, 0 and 160; and whether one stands inside a label
+blanks-hold : (map blank (32 ∷ 9 ∷ 13 ∷ 10 ∷ 11 ∷ 12 ∷ 0 ∷ 160 ∷ []) ≡ true ∷ true ∷ true ∷ true ∷ false ∷ false ∷ false ∷ false ∷ [])
+    × (signs (bytes " ( 0,\t1 )\r\n; ") ≡ bytes "(0,1);") × (map parted (map bytes ("1 2" ∷ "1 \n2" ∷ "1, 2" ∷ " 12 " ∷ "1 ,2" ∷ [])) ≡ true ∷ true ∷ false ∷ false ∷ false ∷ [])
+unfolding blank signs parted
+blanks-hold = (refl, refl, refl)
 
 -- what is wrong with a label, and where; one that is both is said to be not below n
 wrong-labels : (labelFault (bytes "(0,0);") ≡ some (used-before, 3)) × (labelFault (bytes "5;") ≡ some (not-below, 0))
@@ -36,12 +43,12 @@ wrong-labels = (refl, refl, refl, refl, refl)
 -- of several labels at fault the first counts, whichever fault it has; a label is double where it stands again
 several-faults : FromText (bytes "((0,7),0);") (refuses 9 4) × FromText (bytes "((0,0),7);") (refuses 13 4)
     × FromText (bytes "((1,0),1);") (refuses 13 7) × FromText (bytes "(7,7);") (refuses 9 1)
-unfolding fromLabels pairText IsLe allDigits valueFrom
+unfolding fromLabels pairText signs parted IsLe allDigits valueFrom
 several-faults = (
-  reads-as _ (le-by-compare 10 6056 tt) (text (pair (pair node-0 node-7) node-0)),
-  reads-as _ (le-by-compare 10 6056 tt) (text (pair (pair node-0 node-0) node-7)),
-  reads-as _ (le-by-compare 10 6056 tt) (text (pair (pair node-1 node-0) node-1)),
-  reads-as _ (le-by-compare 6 6056 tt) (text (pair node-7 node-7)),
+  reads-few tt tt refl (text (pair (pair node-0 node-7) node-0)),
+  reads-few tt tt refl (text (pair (pair node-0 node-0) node-7)),
+  reads-few tt tt refl (text (pair (pair node-1 node-0) node-1)),
+  reads-few tt tt refl (text (pair node-7 node-7)),
 )
   where
     node-7 : {d : ℕ} → Node d (55 ∷ []) (leaf 7)
@@ -94,19 +101,42 @@ two-nodes (text (pair (pair n m) o)) e₀ e₁ e₂ e₃ e₄ = omega arith
 -- 01's texts that break the grammar, each with a text that begins as it does up to its place
 broken-texts : FromText (bytes "") (refuses 8 0) × FromText (bytes "01;") (refuses 8 1) × FromText (bytes "(0,1)") (refuses 8 5)
     × FromText (bytes "(0,1,2);") (refuses 8 4) × FromText (bytes "12345;") (refuses 8 4) × FromText (replicate 6056 41) (refuses 8 0)
-unfolding Begins IsLe pairText allDigits valueFrom
+unfolding Begins IsLe pairText signs parted allDigits valueFrom
 broken-texts = (
-  breaks (le-by-compare 0 6056 tt) (ended nothing (λ t k. let l = begins-well k .0 in omega arith)),
-  breaks (le-by-compare 3 6056 tt) (broken (le-by-compare 2 3 tt) (59 ∷ [], leaf 0, text node-0) (λ w. nought-alone (w .2) refl refl)),
-  breaks (le-by-compare 5 6056 tt) (ended (59 ∷ [], _, text (pair node-0 node-1)) (λ t k. let e = ends-well k 4 refl in omega arith)),
-  breaks (le-by-compare 8 6056 tt) (broken (le-by-compare 5 8 tt) (bytes ");", _, text (pair node-0 node-1)) (λ w. two-nodes (w .2) refl refl refl refl refl)),
-  breaks (le-by-compare 6 6056 tt)
-      (broken (le-by-compare 5 6 tt) (59 ∷ [], _, text (label (number 49 (50 ∷ 51 ∷ 52 ∷ []) refl refl (le-by-compare 3 3 tt)))) (λ w. four-digits (w .2) refl refl refl refl refl)),
-  breaks (le-by-compare 6056 6056 tt) (broken (le-by-compare 1 6056 tt) nothing (λ w. begins-well (w .2) .1 refl)),
+  breaks-few tt tt (ended nothing (λ t k. let l = begins-well (k .reads) .0 in omega arith)),
+  breaks-few tt tt (broken (le-by-compare 2 3 tt) (59 ∷ [], leaf 0, record { reads = text node-0; whole = refl }) (λ w. nought-alone (w .2 .reads) refl refl)),
+  breaks-few tt tt (ended (59 ∷ [], _, record { reads = text (pair node-0 node-1); whole = refl }) (λ t k. let e = ends-well (k .reads) 4 refl in omega arith)),
+  breaks-few tt tt
+      (broken (le-by-compare 5 8 tt) (bytes ");", _, record { reads = text (pair node-0 node-1); whole = refl }) (λ w. two-nodes (w .2 .reads) refl refl refl refl refl)),
+  breaks-few tt tt
+      (broken (le-by-compare 5 6 tt) (59 ∷ [], _, record { reads = text (label (number 49 (50 ∷ 51 ∷ 52 ∷ []) refl refl (le-by-compare 3 3 tt))); whole = refl })
+      (λ w. four-digits (w .2 .reads) refl refl refl refl refl)),
+  breaks-few tt tt (broken (le-by-compare 1 6056 tt) nothing (λ w. begins-well (w .2 .reads) .1 refl)),
 )
   where
-    nothing : Begins []
-    nothing = (bytes "0;", leaf 0, text node-0)
+    nothing : Begins SentText []
+    nothing = (bytes "0;", leaf 0, record { reads = text node-0; whole = refl })
+
+-- behind the sign at the end nothing follows
+nothing-behind : {s : List ℕ} {t : Tree} → Text s t → getD s 0 0 ≡ 48 → getD s 1 0 ≡ 59 → 2 < length s → ⊥
+unfolding pairText
+nothing-behind (text (label nought)) e f l = omega arith
+nothing-behind (text (label (number c s h k l))) e f m = false≢true (sym k ∙ rw e)
+nothing-behind (text (pair n m)) e f l = omega arith
+
+-- texts with blanks, done and refused: places are "in the bytes as sent", and a text that ends early ends behind its blanks
+blank-texts : FromText (bytes "( 0 , 1 ) ; ") (made (0 ∷ 0 ∷ [])) × FromText (bytes "\t(\r\n  1,0);\n") (made (0 ∷ 0 ∷ [])) × FromText (bytes "( 0 , 0 );") (refuses 13 6)
+    × FromText (bytes " 5;") (refuses 9 1) × FromText (bytes "1 2;") (refuses 8 2) × FromText (bytes "0 ; x") (refuses 8 4) × FromText (bytes "0 ") (refuses 8 2)
+unfolding fromLabels Begins IsLe pairText signs parted allDigits valueFrom
+blank-texts = (
+  reads-few tt tt refl (text (pair node-0 node-1)),
+  reads-few tt tt refl (text (pair node-1 node-0)),
+  reads-few tt tt refl (text (pair node-0 node-0)),
+  reads-few tt tt refl (text (digit 53 refl refl)),
+  breaks-few tt tt (broken (le-by-compare 3 4 tt) (59 ∷ [], _, record { reads = text node-1; whole = refl }) (λ w. false≢true (sym (w .2 .whole)))),
+  breaks-few tt tt (broken (le-by-compare 5 5 tt) ([], _, record { reads = text node-0; whole = refl }) (λ w. nothing-behind (w .2 .reads) refl refl (omega arith))),
+  breaks-few tt tt (ended (59 ∷ [], _, record { reads = text node-0; whole = refl }) (λ t k. let e = ends-well (k .reads) 0 refl in omega arith)),
+)
 
 -- a step taken k times
 times : {A : Type 0} → (A → A) → ℕ → A → A
@@ -134,13 +164,18 @@ long =
     pairText (times twice 10 (bytes "10"))
     (pairText (times twice 7 (bytes "1000")) (pairText (times twice 2 (bytes "1000")) (times twice 1 (bytes "1000")))) ++ (59 ∷ [])
 
--- "Text: 2 (above 6,056 bytes, place 6056), 8, 1, 9", and 13: 1 where labels stand twice, 2 where the grammar is broken
-long-texts : FromText long (refuses 1 0) × FromText (replicate 6057 40) (refuses 2 6056)
-unfolding times twice fromLabels pairText IsLe allDigits valueFrom
+-- the order of the refusals: 1 where labels stand twice, 2 where the grammar is broken; 2 of the bytes before 2 of the signs, and blanks do not count
+long-texts : FromText long (refuses 1 0) × FromText (replicate 6057 40) (refuses 2 6056) × FromText (replicate 65537 40) (refuses 2 65536)
+    × FromText (replicate 65537 32) (refuses 2 65536) × FromText (replicate 6057 32) (refuses 8 6057)
+unfolding times twice Begins fromLabels pairText signs parted IsLe allDigits valueFrom
 long-texts = (
-  reads-as _ (le-by-compare 6056 6056 tt) (text (pair (twiced 10 (label (number 49 (48 ∷ []) refl refl (le-by-compare 1 3 tt))))
+  reads-few tt tt refl (text (pair (twiced 10 (label (number 49 (48 ∷ []) refl refl (le-by-compare 1 3 tt))))
       (pair (twiced 7 thousand) (pair (twiced 2 thousand) (twiced 1 thousand))))),
-  too-long (le-by-compare 6057 6057 tt),
+  too-many-signs (le-by-compare 6057 65536 tt) (le-by-compare 6057 6057 tt),
+  too-long (le-by-compare 65537 65537 tt),
+  too-long (le-by-compare 65537 65537 tt),
+  breaks-few tt tt
+      (ended (bytes "0;", leaf 0, record { reads = text node-0; whole = refl }) (λ t k. let l = begins-well (k .reads) .0 in omega arith)),
 )
   where
     thousand : {d : ℕ} → Node d (bytes "1000") (leaf 1000)
@@ -168,7 +203,7 @@ unfolding pairText
 with-0 s = pairText s (bytes "0")
 
 -- "The nesting may go down 1,023 levels": one text that does, and none that begins with 1,024 brackets
-levels-hold : Text (times with-0 1023 (bytes "0") ++ (59 ∷ [])) (times (λ t. node t (leaf 0)) 1023 (leaf 0)) × (Begins (replicate 1024 40) → ⊥)
+levels-hold : Text (times with-0 1023 (bytes "0") ++ (59 ∷ [])) (times (λ t. node t (leaf 0)) 1023 (leaf 0)) × (Begins Text (replicate 1024 40) → ⊥)
 unfolding times with-0 Begins
 levels-hold = (
   text (levelled with-0 (λ t. node t (leaf 0)) (λ d s t n. pair n node-0) 1023 node-0),

@@ -27,17 +27,18 @@ pub fn to_newick(v: &[u16], out: &mut [u8]) -> Answer
     }
 }
 
-/// Newick to vector: 2 (above 6,056 bytes), 8, 1, then 9 and 13 label by label, 3.
+/// Newick to vector: 2 (above 65,536 bytes, then above 6,056 signs), 8, 1, then 9 and 13 label by label, 3.
 pub fn from_newick(text: &[u8], out: &mut [u16]) -> Answer
     ensures { λ r. ⌜ Keeps (from-newick-call (now (text .entry))) (now (out .entry)) r (now (out .exit)) ⌝ }
 {
-    if 6056 < text.len() {
-        return refuse(Kind::InputLength, 6056);
+    if 65536 < text.len() {
+        return refuse(Kind::InputLength, 65536);
     }
     let mut vector = [0u16; 1024];
     match text_vector::read_vector(text, &mut vector) {
+        TextVector::TooManySigns => refuse(Kind::InputLength, 6056),
         TextVector::Breaks(place) => refuse(Kind::Grammar, place),
-        TextVector::TooMany => refuse(Kind::LeafCount, 0),
+        TextVector::TooManyLeaves => refuse(Kind::LeafCount, 0),
         TextVector::Label(fault) => match fault {
             LabelFault::Stray(place) => refuse(Kind::StrayLabel, place),
             LabelFault::Double(place) => refuse(Kind::DoubleLabel, place),

@@ -17,11 +17,11 @@ abbrev pub cell : List ℕ → ℕ → ℕ
 cell m i = getD m i 0
 
 -- an array of zeros
-abbrev pub Blank : List ℕ → Type 0
-Blank m = (k : ℕ) → cell m k ≡ 0
+abbrev pub AllZero : List ℕ → Type 0
+AllZero m = (k : ℕ) → cell m k ≡ 0
 
-pub zeros-blank : (m : ℕ) → Blank (replicate m 0)
-zeros-blank m k = go (ltb k m) refl
+pub replicate-all-zero : (m : ℕ) → AllZero (replicate m 0)
+replicate-all-zero m k = go (ltb k m) refl
   where
     go : (b : Bool) → ltb k m ≡ b → _≡_ {A = ℕ} (getD (replicate m 0) k 0) 0
     go true q = getD-replicate m k 0 0 (ltb-true k m q)

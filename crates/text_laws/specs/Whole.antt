@@ -14,10 +14,10 @@ use Rattle.text_laws.specs.Cells.{cell, begun, brokenIn, begun-cells, br
 use Rattle.text_laws.specs.Answers.{Same, MayBegin, Took, Answers, answers-place, TextTook}
 use Rattle.text_laws.specs.Bytes.{place-of, drop-byte, sign-there, sign-missing}
 
-place : (s : List ℕ) (k : ℕ) → k ≤ length s → textRead s ≡ broken (drop k s) → BreaksAt s k
+place : (s : List ℕ) (k : ℕ) → k ≤ length s → textRead s ≡ broken (drop k s) → BreaksAt Text s k
 place s k w e =
     let q : length s - length (drop k s) ≡ k = omega (arith, length-drop k s) in
-    subst (BreaksAt s) q (breaks-at s (drop k s) e)
+    subst (BreaksAt Text s) q (breaks-at s (drop k s) e)
 
 -- where nothing is read yet
 pub begin-start : {signs s : List ℕ} (m : List ℕ) → Same signs s → length s ≤ 6056 → length m ≡ 2576 → MayBegin signs s 0 (begun m)
@@ -43,17 +43,17 @@ module _ {signs s m m₁ : List ℕ} {x : ℕ} (N : NodeRead signs s m m₁ x) w
   node-end = answers-place (y .short) A
 
   -- no sign at the end
-  pub text-broken : {m′ : List ℕ} → (getD signs x 0 ≡ 59 → ⊥) → m′ ≡ brokenIn x m₁ → BreaksAt s (cell m′ 12)
+  pub text-broken : {m′ : List ℕ} → (getD signs x 0 ≡ 59 → ⊥) → m′ ≡ brokenIn x m₁ → BreaksAt Text s (cell m′ 12)
   unfolding textRead seq andThen
   text-broken {m′} h q = go A
     where
-      go : Answers (nodeRead levels) s 0 (begun m) m₁ x → BreaksAt s (cell m′ 12)
+      go : Answers (nodeRead levels) s 0 (begun m) m₁ x → BreaksAt Text s (cell m′ 12)
       go (inl t) =
           let c : cell m′ 12 ≡ x = ap (λ (l : List ℕ). cell l 12) q ∙ broken-cell m₁ x (t .room) (omega (arith, t .within, y .short)) in
-          subst (BreaksAt s) (sym c) (place s x (t .within) (rw (t .reads, sign-missing 59 (t .tree) s x (λ e. h (y .same x ∙ e)))))
+          subst (BreaksAt Text s) (sym c) (place s x (t .within) (rw (t .reads, sign-missing 59 (t .tree) s x (λ e. h (y .same x ∙ e)))))
       go (inr b) =
           let c : cell m′ 12 ≡ cell m₁ 12 = ap (λ (l : List ℕ). cell l 12) (q ∙ sym (break-before m₁ x (b .off))) in
-          subst (BreaksAt s) (sym c) (place s (cell m₁ 12) (b .within) (rw (b .breaks)))
+          subst (BreaksAt Text s) (sym c) (place s (cell m₁ 12) (b .within) (rw (b .breaks)))
 
   pub broken-small : {m′ : List ℕ} → m′ ≡ brokenIn x m₁ → cell m′ 12 ≤ 6056
   broken-small {m′} q = go A
@@ -80,7 +80,7 @@ module _ {signs s m m₁ : List ℕ} {x : ℕ} (N : NodeRead signs s m m₁ x) w
         (place-of s x 59 (omega arith) end, t .room, omega (arith, t .next, c .1), omega (arith, t .next, c .1, t .ahead, t .within, y .short))
 
     -- something behind it
-    pub text-longer : x + 1 < length s → BreaksAt s (x + 1)
+    pub text-longer : x + 1 < length s → BreaksAt Text s (x + 1)
     unfolding textRead seq andThen nothing
     text-longer w = place s (x + 1) (omega arith) (rw (took .reads, sign-there 59 (took .tree) s x (omega arith) end, drop-byte s (x + 1) w))
 

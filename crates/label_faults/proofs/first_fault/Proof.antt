@@ -1,7 +1,7 @@
 use borrow.Author.Needs.{needs}
 use Prim.Native.Nat.{ℕ}
 use lib.ListN.{length-replicate}
-use Rattle.text_laws.specs.Cells.{zeros-blank}
+use Rattle.text_laws.specs.Cells.{replicate-all-zero}
 use Rattle.label_faults.proofs.first_fault.Statement.{statement}
 use Rattle.label_faults.proofs.first_fault.Tie as tie
 use Rattle.label_faults.proofs.first_fault.Reads as reads
@@ -12,7 +12,7 @@ slice-aggregate-look : tie.Need-slice-aggregate-look
 slice-aggregate-look c = search needs
 
 look-requires : tie.Need-look-requires
-look-requires c κs = (c .before .before .pre .0, length-replicate {A = ℕ} 1024 0, zeros-blank 1024, c .before .before .pre .1)
+look-requires c κs = (c .before .before .pre .0, length-replicate {A = ℕ} 1024 0, replicate-all-zero 1024, c .before .before .pre .1)
 
 returns : tie.Need-returns
 returns c = search needs

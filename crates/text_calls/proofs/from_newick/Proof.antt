@@ -9,6 +9,11 @@ use Rattle.text_vector.specs.declared.TextVector.the-variants.{Label}
 use borrow.Author.Needs.{needs}
 use Rattle.text_calls.proofs.from_newick.Statement.{statement}
 use Rattle.text_calls.proofs.from_newick.Tie as tie
+use Rattle.text_calls.proofs.from_newick.Reads as reads
+use Rattle.text_calls.proofs.from_newick.Lts as lts
+use Rattle.answering.proofs.hand_out.Reads as hand-out-reads
+use Rattle.answering.proofs.refuse.Reads as refuse-reads
+use Rattle.text_vector.proofs.read_vector.Reads as read-vector-reads
 
 refuse-requires : tie.Need-refuse-requires
 refuse-requires c κs = search needs
@@ -23,17 +28,23 @@ slice-aggregate-read-vector c = search needs
 read-vector-requires : tie.Need-read-vector-requires
 read-vector-requires c κs = search needs
 
-enum-known-place : tie.Need-enum-known-place
-enum-known-place c = search needs
+enum-told : tie.Need-enum-told
+enum-told c = search needs
 
 refuse-requires-2 : tie.Need-refuse-requires-2
 refuse-requires-2 c κs = search needs
 
-enum-told : tie.Need-enum-told
-enum-told c = search needs
+enum-known-place : tie.Need-enum-known-place
+enum-known-place c = search needs
 
 refuse-requires-3 : tie.Need-refuse-requires-3
 refuse-requires-3 c κs = search needs
+
+enum-told-2 : tie.Need-enum-told-2
+enum-told-2 c = search needs
+
+refuse-requires-4 : tie.Need-refuse-requires-4
+refuse-requires-4 c κs = search needs
 
 enum-known-fault : tie.Need-enum-known-fault
 enum-known-fault c = search needs
@@ -41,14 +52,14 @@ enum-known-fault c = search needs
 enum-known-fault-2 : tie.Need-enum-known-fault-2
 enum-known-fault-2 c = search needs
 
-refuse-requires-4 : tie.Need-refuse-requires-4
-refuse-requires-4 c κs = search needs
+refuse-requires-5 : tie.Need-refuse-requires-5
+refuse-requires-5 c κs = search needs
 
 enum-known-fault-3 : tie.Need-enum-known-fault-3
 enum-known-fault-3 c = search needs
 
-refuse-requires-5 : tie.Need-refuse-requires-5
-refuse-requires-5 c κs = search needs
+refuse-requires-6 : tie.Need-refuse-requires-6
+refuse-requires-6 c κs = search needs
 
 enum-known-n : tie.Need-enum-known-n
 enum-known-n c = search needs
@@ -64,37 +75,42 @@ hand-out-requires c κs =
 returns-2 : tie.Need-returns-2
 unfolding answers.reads answers.numberOf
 returns-2 c =
-    let F = rw (c .before .before .place .given .1) at (c .before .before .before .before .before .read-vector .ensures) in
+    let F = rw (c .before .enum-told .given .1) at (c .before .before .before .before .read-vector .ensures) in
     refused-early _ F (c .refuse2 .ensures)
 
 returns-3 : tie.Need-returns-3
 unfolding answers.reads answers.numberOf
 returns-3 c =
-    let F = rw (c .before .enum-told .given .1) at (c .before .before .before .before .read-vector .ensures) in
+    let F = rw (c .before .before .place .given .1) at (c .before .before .before .before .before .read-vector .ensures) in
     refused-early _ F (c .refuse3 .ensures)
 
--- what is told of a label at fault
-label-told : (c : tie.After-fault) → Gives (c .before .before .before .before .before .before .before .before .args .text .now)
-    (c .before .before .before .read-vector .last .1 .0) (Label (c .fault .given .0 .0))
-label-told c = rw (c .fault .given .1) at (c .before .before .before .read-vector .ensures)
-
 returns-4 : tie.Need-returns-4
-unfolding answers.reads answers.numberOf labelNumber faultIs
+unfolding answers.reads answers.numberOf
 returns-4 c =
-    let told = c .before .before in
-    refused-early _ (rw (told .fault2 .given .1) at (label-told (told .before .before .before))) (c .refuse4 .ensures)
+    let F = rw (c .before .enum-told2 .given .1) at (c .before .before .before .before .read-vector .ensures) in
+    refused-early _ F (c .refuse4 .ensures)
+
+-- what is told of a label at fault
+label-told : (c : tie.After-fault) → Gives (c .before .before .before .before .before .before .before .before .args .text .now) (c .before .before .before .read-vector .last .1 .0) (Label (c .fault .given .0 .0))
+label-told c = rw (c .fault .given .1) at (c .before .before .before .read-vector .ensures)
 
 returns-5 : tie.Need-returns-5
 unfolding answers.reads answers.numberOf labelNumber faultIs
 returns-5 c =
     let told = c .before .before in
-    refused-early _ (rw (told .fault3 .given .1) at (label-told (told .before .before .before))) (c .refuse5 .ensures)
+    refused-early _ (rw (told .fault2 .given .1) at (label-told (told .before .before .before))) (c .refuse5 .ensures)
+
+returns-6 : tie.Need-returns-6
+unfolding answers.reads answers.numberOf labelNumber faultIs
+returns-6 c =
+    let told = c .before .before in
+    refused-early _ (rw (told .fault3 .given .1) at (label-told (told .before .before .before))) (c .refuse6 .ensures)
 
 same-length : tie.Need-same-length
 same-length c = search needs
 
-returns-6 : tie.Need-returns-6
-returns-6 c =
+returns-7 : tie.Need-returns-7
+returns-7 c =
     let told = c .before .before .before .before .before .before in
     let H = rw (told .n .given .1) at (told .before .before .before .read-vector .ensures) in
     handed-on _ (H .makes) (c .before .before .hand-out .ensures)
@@ -107,15 +123,17 @@ from-newick-spec =
     returns
     slice-aggregate-read-vector
     read-vector-requires
-    enum-known-place
-    refuse-requires-2
     enum-told
+    refuse-requires-2
+    enum-known-place
     refuse-requires-3
+    enum-told-2
+    refuse-requires-4
     enum-known-fault
     enum-known-fault-2
-    refuse-requires-4
-    enum-known-fault-3
     refuse-requires-5
+    enum-known-fault-3
+    refuse-requires-6
     enum-known-n
     slice-aggregate-hand-out
     hand-out-requires
@@ -123,5 +141,6 @@ from-newick-spec =
     returns-3
     returns-4
     returns-5
+    returns-6
     same-length
-    returns-6)
+    returns-7)

@@ -1,92 +1,47 @@
-use borrow.Author.Needs.{needs}
 use Prim.Native.Nat.{ℕ}
-use mathlib.Core.Path.{sym}
-use lib.ListN.{replicate, length-replicate}
-use borrow.Author.Tests.{not-true, not-false}
-use Rattle.rules.specs.CallFromNewick.{breaks}
-use Rattle.text_laws.specs.Cells.{zeros-blank}
-use Rattle.text_vector.specs.Gives.{Taken, some-labels, array-kept, too-many, label-found, some-fault, table-read, vector-held}
+use lib.ListN.{length-replicate}
+use Rattle.rules.specs.CallFromNewick.{too-many-signs}
+use Rattle.text_laws.specs.Cells.{replicate-all-zero}
+use borrow.Author.Needs.{needs}
 use Rattle.text_vector.proofs.read_vector.Statement.{statement}
 use Rattle.text_vector.proofs.read_vector.Tie as tie
 use Rattle.text_vector.proofs.read_vector.Reads as reads
 use Rattle.text_vector.proofs.read_vector.Lts as lts
-use Rattle.label_faults.proofs.each_once.Reads as each-once-reads
-use Rattle.label_faults.proofs.first_fault.Reads as first-fault-reads
-use Rattle.text_reader.proofs.read_text.Reads as read-text-reads
-use Rattle.text_vector.proofs.pairs_vector.Reads as pairs-vector-reads
+use Rattle.text_signs.proofs.keep.Reads as keep-reads
+use Rattle.text_vector.proofs.signs_vector.Reads as signs-vector-reads
 
-read-text-requires : tie.Need-read-text-requires
-read-text-requires c κs = search needs
+keep-requires : tie.Need-keep-requires
+keep-requires c κs = (length-replicate {A = ℕ} 6144 0, replicate-all-zero 6144)
 
-enum-known-k : tie.Need-enum-known-k
-enum-known-k c = search needs
+enum-told : tie.Need-enum-told
+enum-told c = search needs
 
-enum-known-n : tie.Need-enum-known-n
-enum-known-n c = search needs
+enum-known-count : tie.Need-enum-known-count
+enum-known-count c = search needs
 
--- the text is read, and has so many labels
-taken : (c : tie.After-n) → Taken (c .before .before .before .before .before .before .args .s .now) (replicate 2576 0) (c .before .before .read-text .last .1 .0) (c .n .given .0 .0)
-taken c = record {
-  short = c .before .before .before .before .before .before .pre .0;
-  took = rw (c .n .given .1) at (c .before .before .read-text .ensures);
-  room = length-replicate {A = ℕ} 2576 0;
-  blank = zeros-blank 2576;
-}
+signs-vector-requires : tie.Need-signs-vector-requires
+signs-vector-requires c κs =
+    let start = c .before .before .before .before .before .before .before .before .before in
+    let keeps = rw (c .before .before .before .count .given .1) at (c .before .before .before .before .before .keep .ensures) in
+    (keeps, start .pre .0, start .pre .1)
 
 returns : tie.Need-returns
-returns c = too-many (taken (c .before .before)) (c .if1 .taken)
-
-slice-aggregate-each-once : tie.Need-slice-aggregate-each-once
-slice-aggregate-each-once c = sym (array-kept (taken (c .before .before .before)))
-
-each-once-requires : tie.Need-each-once-requires
-each-once-requires c κs = (c .before .if1 .left, array-kept (taken (c .before .before .before)))
-
-first-fault-requires : tie.Need-first-fault-requires
-first-fault-requires c κs = let few = c .before .before .before .if1 .left in
-    let missing = rw (not-true (c .before .each-once .result) (c .if2 .taken)) at (c .before .each-once .ensures) in
-    (few, some-fault (taken (c .before .before .before .before .before)) few missing)
-
-returns-2 : tie.Need-returns-2
-returns-2 c = label-found (taken (c .before .before .before .before .before .before)) (c .before .before .before .before .if1 .left) _ (c .first-fault .ensures)
-
-slice-aggregate-pairs-vector : tie.Need-slice-aggregate-pairs-vector
-slice-aggregate-pairs-vector c = sym (array-kept (taken (c .before .before .before .before .before .before)))
-
-pairs-vector-requires : tie.Need-pairs-vector-requires
-pairs-vector-requires c κs = let at-each-once = c .before .before .before in
-    let few = c .before .before .before .before .before .if1 .left in
-    let T = taken (c .before .before .before .before .before .before .before) in
-    let each = rw (not-false (at-each-once .each-once .result) (c .before .before .if2 .left)) at (at-each-once .each-once .ensures) in
-    ((some-labels T, few, array-kept T, search needs), (_, table-read T few each))
-
-returns-3 : tie.Need-returns-3
-returns-3 c = breaks (c .before .before .before .before .before .before .before .pre .0) (rw (c .before .k .given .1) at (c .before .before .before .read-text .ensures))
+returns c = too-many-signs (c .before .before .before .before .before .before .pre .0) (rw (c .enum-told .given .1) at (c .before .before .keep .ensures))
 
 same-length : tie.Need-same-length
 same-length c = search needs
 
-returns-4 : tie.Need-returns-4
-returns-4 c = let at-each-once = c .before .before .before .before .before .before in
-    let few = c .before .before .before .before .before .before .before .before .if1 .left in
-    let T = taken (c .before .before .before .before .before .before .before .before .before .before) in
-    let each = rw (not-false (at-each-once .each-once .result) (c .before .before .before .before .before .if2 .left)) at (at-each-once .each-once .ensures) in
-    vector-held T few each _ _ (c .before .before .pairs-vector .ensures _ (table-read T few each))
+returns-2 : tie.Need-returns-2
+returns-2 c = c .before .before .signs-vector .ensures
 
 pub read-vector-spec : {M : Type 1} → statement M
 read-vector-spec =
     tie.close
     (tie.spec
-    read-text-requires
-    enum-known-k
-    enum-known-n
+    keep-requires
+    enum-told
+    enum-known-count
+    signs-vector-requires
     returns
-    slice-aggregate-each-once
-    each-once-requires
-    first-fault-requires
-    returns-2
-    slice-aggregate-pairs-vector
-    pairs-vector-requires
-    returns-3
     same-length
-    returns-4)
+    returns-2)
