@@ -94,6 +94,30 @@ static void texts(void)
     holds("from_newick, double label", out, none, sizeof none);
 }
 
+/* Blanks are passed over between the signs, part a label inside it, and count in the places. */
+static void blanks(void)
+{
+    uint64_t a[2];
+    uint16_t out[4], none[4], pair[4] = {0, 0, 7777, 7777};
+    static uint8_t spaces[65537];
+    memset(spaces, ' ', sizeof spaces);
+    fill(none, 4);
+    fill(out, 4);
+    blathersike_from_newick((const uint8_t *)"( 0 , 1 ) ; ", 12, out, 4, a);
+    expect("from_newick, blanks", a, 0, 2);
+    holds("from_newick, blanks", out, pair, sizeof pair);
+    fill(out, 4);
+    blathersike_from_newick((const uint8_t *)"1 2;", 4, out, 4, a);
+    expect("from_newick, parted label", a, 8, 2);
+    blathersike_from_newick((const uint8_t *)"(0,\r\n\t7);", 9, out, 4, a);
+    expect("from_newick, stray label behind blanks", a, 9, 6);
+    blathersike_from_newick(spaces, 65536, out, 4, a);
+    expect("from_newick, blanks alone", a, 8, 65536);
+    blathersike_from_newick(spaces, 65537, out, 4, a);
+    expect("from_newick, too many bytes", a, 2, 65536);
+    holds("from_newick, blanks refused", out, none, sizeof none);
+}
+
 static void records(void)
 {
     uint64_t a[2];
@@ -249,6 +273,7 @@ int main(void)
     expect("check, entry", a, 4, 2);
     tables();
     texts();
+    blanks();
     records();
     labels();
     archives_written();

@@ -1,7 +1,9 @@
-//! The inputs and expected outputs of the programs that are run and compared.
+//! The inputs and expected outputs of the programs that are run and compared, and the
+//! Newick files that are among these inputs.
 //!
 //! 01: "run and compared with an independent second program."
 
+use crate::cases::newick_files;
 use crate::{cases, every, listing, run, samples, stream};
 use std::fs;
 use std::io;
@@ -9,11 +11,12 @@ use std::path::Path;
 
 /// The listing program gets every name that begins with `listing`; the other
 /// names are programs of their own.
-pub const NAMES: [&str; 9] = [
+pub const NAMES: [&str; 10] = [
     "samples",
     "every",
     "calls",
     "archive_cases",
+    "text_cases",
     "listing",
     "listing-sample",
     "listing-cut",
@@ -27,6 +30,7 @@ pub fn input(name: &str) -> Option<Vec<u8>> {
         "samples" | "every" => Vec::new(),
         "calls" => stream::write(&cases::all()),
         "archive_cases" => stream::write(&cases::of_archives()),
+        "text_cases" => stream::write(&cases::of_texts()),
         "listing" => cases::listings::long(),
         "listing-sample" => samples::LISTING.to_vec(),
         "listing-cut" => cases::listings::cut(),
@@ -48,7 +52,7 @@ fn output(name: &str, input: &[u8]) -> Vec<u8> {
     match name {
         "samples" => samples::lines(),
         "every" => every::lines(),
-        "calls" | "archive_cases" => run::answers(input),
+        "calls" | "archive_cases" | "text_cases" => run::answers(input),
         _ => listed(input),
     }
 }
@@ -69,16 +73,19 @@ pub struct File {
 /// beside that program; what else the listing is tried on stands in `expected/`.
 fn paths(name: &str) -> [String; 2] {
     let program = match name {
-        "samples" | "every" | "calls" | "archive_cases" => name,
+        "samples" | "every" | "calls" | "archive_cases" | "text_cases" => name,
         "listing-sample" => "listing",
         _ => return ["in", "out"].map(|end| format!("second/expected/{name}.{end}")),
     };
     ["stdin", "stdout"].map(|file| format!("crates/{program}/{file}"))
 }
 
-/// The files of every name; an empty input has none.
+/// The files of every name, of which an empty input has none, and the Newick files.
 pub fn all() -> Vec<File> {
-    let mut files = Vec::new();
+    let newick = newick_files::all().into_iter();
+    let mut files: Vec<File> = newick
+        .map(|file| File { path: format!("data/newick/{}", file.name), contents: file.contents })
+        .collect();
     for name in NAMES {
         let input = input(name).expect("every name has an input");
         let output = output(name, &input);

@@ -4,13 +4,23 @@
 //! either. The leaf count n is the number of labels; each of 0 to n-1 must stand
 //! once." 02, CR 2: "9 is now only "not below n"; 13 is "used before"; label by label
 //! in text order, 9 before 13 at the same label."
+//!
+//! 02, CR 3: "Places of 8, 9 and 13 are in the bytes as sent. The writer still writes
+//! none. Demand 3 reads such a text as its signs without blanks. Refusals: 2 is now
+//! given first for a text above 65,536 bytes (place 65536), then for more than 6,056
+//! bytes that aren't blanks (place 6056)."
+//!
+//! No text is made without its blanks: the labels are found among the bytes as sent,
+//! and the blanks around a node are trimmed off where the node is read.
 
 use crate::answer::{refuse, Refusal, DOUBLE_LABEL, LENGTH, STRAY_LABEL};
-use crate::grammar;
+use crate::grammar::{self, is_blank};
 use crate::tree::Tree;
 use crate::vector::leaf_count;
 
-pub const LONGEST_TEXT: usize = 6056;
+/// The bytes of a text as it is sent, and those of them that are no blanks.
+pub const MOST_BYTES: usize = 65536;
+pub const MOST_SIGNS: usize = 6056;
 
 /// The text that we write for a tree whose children stand as we write them, the
 /// child with the smaller least leaf first.
@@ -25,20 +35,28 @@ fn node(tree: &Tree) -> String {
     }
 }
 
-/// The tree of a text, or the first refusal of the order "2 (above 6,056 bytes,
-/// place 6056), 8, 1", then 9 and 13.
+/// The tree of a text, or the first refusal of the order 2 for its bytes, 2 for its
+/// signs, 8, 1, then 9 and 13.
 pub fn read(text: &[u8]) -> Result<Tree, Refusal> {
-    if text.len() > LONGEST_TEXT {
-        return refuse(LENGTH, LONGEST_TEXT);
+    if text.len() > MOST_BYTES {
+        return refuse(LENGTH, MOST_BYTES);
+    }
+    if text.iter().filter(|&&byte| !is_blank(byte)).count() > MOST_SIGNS {
+        return refuse(LENGTH, MOST_SIGNS);
     }
     grammar::follows(text)?;
-    let text = std::str::from_utf8(text).expect("the grammar has ASCII signs only");
+    let text = std::str::from_utf8(text).expect("the grammar has ASCII bytes only");
     let labels = labels(text);
     let n = leaf_count(labels.len() as u64)?;
     match faults(&labels, n).first() {
         Some(&(place, number)) => refuse(number, place),
-        None => Ok(tree(text.trim_end_matches(';'))),
+        None => Ok(tree(trimmed(text).trim_end_matches(';'))),
     }
+}
+
+/// The same without the blanks before its first sign and behind its last.
+fn trimmed(text: &str) -> &str {
+    text.trim_matches(|sign| grammar::BLANKS.map(char::from).contains(&sign))
 }
 
 /// Every fault of every label, the place before the number, in rising order: so the
@@ -74,8 +92,9 @@ fn labels(text: &str) -> Vec<(usize, usize)> {
 }
 
 /// The tree of a node's text: a label, or what stands before and behind the
-/// comma that no inner bracket holds.
+/// comma that no inner bracket holds. Blanks around any of these say nothing.
 fn tree(node: &str) -> Tree {
+    let node = trimmed(node);
     let inner = match node.strip_prefix('(') {
         None => return Tree::Leaf(node.parse().expect("a node without brackets is a label")),
         Some(opened) => opened.strip_suffix(')').expect("the bracket of a node is closed"),

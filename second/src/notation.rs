@@ -3,7 +3,7 @@
 
 use crate::answer::Answer;
 use crate::calls;
-use crate::newick::LONGEST_TEXT;
+use crate::newick::MOST_SIGNS;
 use crate::vector::MOST_LEAVES;
 use std::fmt::Display;
 
@@ -37,7 +37,7 @@ pub fn record(bytes: &[u8]) -> String {
 
 /// Room for every result of a sample: a table of 1,024 leaves, the longest text.
 const AMPLE_WORDS: usize = 3 * (MOST_LEAVES - 1);
-const AMPLE_BYTES: usize = LONGEST_TEXT;
+const AMPLE_BYTES: usize = MOST_SIGNS;
 
 /// The lines of calls that are made one after another.
 #[derive(Default)]

@@ -1,5 +1,5 @@
-//! The samples of 01 and its refused inputs, and samples of 02's labels and archive; a
-//! line for each call.
+//! The samples of 01 and its refused inputs, and samples of 02's labels, blanks and
+//! archive; a line for each call.
 //!
 //! 01: "The marked ones (*) are proved of the definitions [..]. The rest, and
 //! every vector for n up to 6, are run and compared with an independent second
@@ -27,6 +27,10 @@ pub const REFUSED_TEXTS: [&str; 7] = ["", "01;", "(0,1)", "(0,1,2);", "12345;", 
 
 /// Texts with several labels at fault: 9 at 4, 13 at 4, 13 at 7 and 9 at 1.
 pub const FAULTY_LABELS: [&str; 4] = ["((0,7),0);", "((0,0),7);", "((1,0),1);", "(7,7);"];
+
+/// Texts with blanks: done; 8 at 2, where a label is parted, and at 6, since the blank
+/// behind a text that ends early counts; 9 at 6 and 13 at 6.
+pub const WITH_BLANKS: [&str; 5] = ["( 0 , 1 ) ; ", "1 2;", "(0,1) ", "( 0 , 7 );", "( 0 , 0 );"];
 
 /// "Rows 1,0,4; 3,2,5; 5,4,6 give 0,0,2,2".
 pub const ROWS: [u16; 9] = [1, 0, 4, 3, 2, 5, 5, 4, 6];
@@ -71,7 +75,7 @@ pub fn lines() -> Vec<u8> {
     for v in REFUSED_VECTORS {
         refused_vector(&mut lines, v);
     }
-    for text in REFUSED_TEXTS.into_iter().chain(FAULTY_LABELS) {
+    for text in REFUSED_TEXTS.into_iter().chain(FAULTY_LABELS).chain(WITH_BLANKS) {
         lines.from_newick(text.as_bytes());
     }
     lines.unpack(&[0x00, 0x41]);

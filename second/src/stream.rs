@@ -1,5 +1,5 @@
-//! The streams of cases that the programs `calls` and `archive_cases` read. The
-//! format is told in README.md.
+//! The streams of cases that the programs `calls`, `archive_cases` and `text_cases`
+//! read. The format is told in README.md.
 //!
 //! 01: the nine calls, to which 02 adds the archive's three; and "vector and table
 //! numbers are 16 bits wide"; so a list is a length and its elements, of two bytes
@@ -7,6 +7,9 @@
 
 /// No list of a stream has more elements, and no buffer.
 pub const LONGEST: usize = 8192;
+
+/// But a text of `text_cases` may have so many: more than are read.
+pub const LONGEST_TEXT: usize = 65600;
 
 /// A buffer to lend: its room, and the seed of what it holds before the call.
 #[derive(Clone, Copy, Debug, PartialEq, Eq)]

@@ -87,10 +87,10 @@ fn label_faults(text: &[u8]) -> Vec<u8> {
 fn labels_at_fault_come_in_either_order() {
     let mut firsts = BTreeMap::new();
     for (case, answer, _) in all().iter() {
-        let (Case::FromNewick { text, .. }, Refused(refusal)) = (case, answer) else { continue };
-        if ![9, 13].contains(&refusal.number) {
-            continue;
-        }
+        let (text, refusal) = match (case, answer) {
+            (Case::FromNewick { text, .. }, Refused(r)) if [9, 13].contains(&r.number) => (text, r),
+            _ => continue,
+        };
         let faults = label_faults(text);
         assert_eq!(faults[0], refusal.number);
         if faults.iter().any(|&fault| fault != faults[0]) {

@@ -1,6 +1,6 @@
 //! The place of refusal 8 against another definition, found by listing how texts
 //! begin: "first byte such that no text begins with the bytes up to and including
-//! it; the length if it ends early".
+//! it; the length if it ends early". Texts are listed with blanks, and without.
 
 mod common;
 
@@ -18,14 +18,13 @@ fn word(text: &str) -> Words {
 
 /// The words of one set before those of another, each cut to `most` bytes.
 fn joined(first: &Words, second: &Words, most: usize) -> Words {
+    let cut = |word: &Vec<u8>, length: usize| word.iter().take(length).copied().collect();
+    let backs: Vec<Words> =
+        (0..=most).map(|length| second.iter().map(|word| cut(word, length)).collect()).collect();
     let mut words = Words::new();
     for front in first {
-        for back in second {
-            words.insert(front.iter().chain(back).take(most).copied().collect());
-            if front.len() == most {
-                break; // all of the others give the same word
-            }
-        }
+        let front = &front[..most.min(front.len())];
+        words.extend(backs[most - front.len()].iter().map(|back| [front, back].concat()));
     }
     words
 }
@@ -41,19 +40,22 @@ fn labels(digit: char) -> Words {
     labels
 }
 
-/// All texts with such labels, each cut to `most` bytes. The nodes are found level
-/// by level until a further level gives none that is new.
-fn texts(digit: char, most: usize) -> Words {
-    let mut nodes = labels(digit);
+/// All texts with such labels, each cut to `most` bytes; any number of the given blank
+/// stands before each sign or label and behind the last. The nodes are found level by
+/// level until a further level gives none that is new.
+fn texts(digit: char, blank: &str, most: usize) -> Words {
+    let blanks: Words = (0..=most).map(|count| blank.repeat(count).into_bytes()).collect();
+    let spaced = |words: &Words| joined(&blanks, words, most);
+    let mut nodes = spaced(&labels(digit));
     loop {
-        let mut pairs = word("(");
-        for part in [&nodes, &word(","), &nodes, &word(")")] {
+        let mut pairs = spaced(&word("("));
+        for part in [&nodes, &spaced(&word(",")), &nodes, &spaced(&word(")"))] {
             pairs = joined(&pairs, part, most);
         }
         let count = nodes.len();
         nodes.extend(pairs);
         if nodes.len() == count {
-            return joined(&nodes, &word(";"), most);
+            return joined(&joined(&nodes, &spaced(&word(";")), most), &blanks, most);
         }
     }
 }
@@ -72,13 +74,14 @@ fn rows(signs: &[u8], longest: usize) -> Vec<Vec<u8>> {
     rows
 }
 
-fn compare(digit: char, longest: usize) {
+/// The rows have the two digits, the other signs and the blank, if there is one.
+fn compare(digit: char, blank: &str, longest: usize) {
     // Texts cut one byte later than the longest row: what is not longer is whole.
-    let texts = texts(digit, longest + 1);
+    let texts = texts(digit, blank, longest + 1);
     let beginnings: Words =
         texts.iter().flat_map(|t| (0..=t.len()).map(move |k| t[..k].to_vec())).collect();
     let mut whole = 0;
-    for row in rows(&[b'0', digit as u8, b',', b'(', b')', b';'], longest) {
+    for row in rows(format!("0{digit},();{blank}").as_bytes(), longest) {
         let fault = (0..row.len()).find(|&place| !beginnings.contains(&row[..=place]));
         let wanted = match fault {
             None if texts.contains(&row) => Ok(()),
@@ -93,21 +96,34 @@ fn compare(digit: char, longest: usize) {
 
 #[test]
 fn places_are_where_no_text_begins_so() {
-    compare('1', 7);
+    compare('1', "", 7);
+}
+
+#[test]
+fn places_count_blanks() {
+    compare('1', " ", 7);
+}
+
+#[test]
+fn places_count_every_blank() {
+    for blank in ["\t", "\r", "\n"] {
+        compare('7', blank, 5);
+    }
 }
 
 #[test]
 fn places_are_the_same_with_another_digit() {
-    compare('9', 5);
+    compare('9', "", 5);
 }
 
-/// A byte that is no sign of the grammar is at fault where it stands.
+/// A byte that is no sign of the grammar and no blank is at fault where it stands, also
+/// those that other programs take for blanks: 0, 11, 12 and 160.
 #[test]
 fn other_bytes_are_at_fault_where_they_stand() {
     let text = b"((0,1234),(12,3));";
     assert_eq!(follows(text), Ok(()));
     for place in 0..=text.len() {
-        for byte in (0..=255).filter(|byte| !b"0123456789(),;".contains(byte)) {
+        for byte in (0..=255).filter(|byte| !b"0123456789(),; \t\r\n".contains(byte)) {
             let mut inserted = text.to_vec();
             inserted.insert(place, byte);
             assert_eq!(follows(&inserted), Err(Refusal { number: 8, place }));
@@ -161,8 +177,6 @@ fn labels_of_one_to_four_digits() {
         ("(0,01);", refused(8, 4)),
         ("(1,0);;", refused(8, 6)),
         ("-1;", refused(8, 0)),
-        (" 0;", refused(8, 0)),
-        ("0;\n", refused(8, 2)),
         (";", refused(8, 0)),
         ("()", refused(8, 1)),
         ("(0)", refused(8, 2)),

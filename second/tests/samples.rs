@@ -96,6 +96,22 @@ fn refused_texts() {
 }
 
 #[test]
+fn texts_with_blanks() {
+    let cases = [
+        ("( 0 , 1 ) ; ", Done(2)),
+        ("1 2;", refused(8, 2)),
+        ("(0,1) ", refused(8, 6)),
+        ("( 0 , 7 );", refused(9, 6)),
+        ("( 0 , 0 );", refused(13, 6)),
+    ];
+    assert_eq!(samples::WITH_BLANKS, cases.map(|(text, _)| text));
+    for (text, answer) in cases {
+        assert_eq!(answer_of_text(text.as_bytes()), answer, "{text}");
+    }
+    assert_eq!(of_text("( 0 , 1 ) ; "), [0, 0]);
+}
+
+#[test]
 fn refused_record() {
     assert_eq!(answer_of_record(&[0x00, 0x41]), refused(10, 1));
 }
@@ -120,12 +136,14 @@ fn the_lines_hold_all_samples() {
         "from_newick - : refused 8 0 : -\n",
         "from_newick (0,0); : refused 13 3 : -\n",
         "from_newick ((0,7),0); : refused 9 4 : -\n",
+        "from_newick ( 0 , 1 ) ;  : done 2 : 0,0\n",
+        "from_newick 1 2; : refused 8 2 : -\n",
         "unpack 0041 : refused 10 1 : -\n",
         "to_table 0 : done 0 : -\n",
     ] {
         assert_eq!(lines.matches(wanted).count(), 1, "{wanted}");
     }
-    assert_eq!(lines.lines().count(), 8 * 8 + 2 + 4 * 6 + 11 + 1 + ARCHIVES.len());
+    assert_eq!(lines.lines().count(), 8 * 8 + 2 + 4 * 6 + 11 + 5 + 1 + ARCHIVES.len());
 }
 
 /// The lines of the archive, the last ones.

@@ -1,4 +1,4 @@
-// Each call, made with the very buffers that a case lends, and the case's line.
+// Each call but that of a text, made with the very buffers that a case lends, and the case's line.
 use case_lines::answer;
 use case_lines::hash_bytes;
 use case_lines::hash_numbers;
@@ -28,13 +28,6 @@ pub fn to_newick(index: usize, v: &[u16], out: &mut [u8]) {
     let given: Answer = trees::to_newick(v, out);
     answer(index, 4, given);
     hash_bytes(out);
-    printing::byte(b'\n');
-}
-
-pub fn from_newick(index: usize, text: &[u8], out: &mut [u16]) {
-    let given: Answer = trees::from_newick(text, out);
-    answer(index, 5, given);
-    hash_numbers(out);
     printing::byte(b'\n');
 }
 

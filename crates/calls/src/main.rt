@@ -30,7 +30,7 @@ fn case(index: usize, v: &mut [u16], p: &mut [u16], out: &mut [u16], bytes: &mut
         2 => to_table(index, v, out),
         3 => from_table(index, v, out),
         4 => to_newick(index, v, bytes),
-        5 => from_newick(index, bytes, out),
+        5 => newick_case::from_newick(index, bytes, out),
         6 => pack(index, v, bytes),
         7 => unpack(index, bytes, out),
         8 => shuffle(index, v, p, out),
@@ -81,18 +81,6 @@ fn to_newick(index: usize, v: &mut [u16], out: &mut [u8]) -> bool {
     let whole = given.whole && lent.whole;
     if whole {
         made::to_newick(index, &v[..n], &mut out[..room]);
-    }
-    whole
-}
-
-fn from_newick(index: usize, text: &mut [u8], out: &mut [u16]) -> bool {
-    let given = case_stream::bytes(text);
-    let lent = case_stream::lent_numbers(out);
-    let n = given.length;
-    let room = lent.length;
-    let whole = given.whole && lent.whole;
-    if whole {
-        made::from_newick(index, &text[..n], &mut out[..room]);
     }
     whole
 }

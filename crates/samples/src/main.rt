@@ -65,6 +65,15 @@ fn faulty_labels() {
     call_lines::from_newick(b"(7,7);");
 }
 
+// Blanks between the signs are passed over; a label that they part is broken, and places count them.
+fn blanks() {
+    call_lines::from_newick(b"( 0 , 1 ) ; ");
+    call_lines::from_newick(b"1 2;");
+    call_lines::from_newick(b"(0,1) ");
+    call_lines::from_newick(b"( 0 , 7 );");
+    call_lines::from_newick(b"( 0 , 0 );");
+}
+
 // The trees 0,0,1,4 and 0,0,2,1; no tree; three trees of one leaf.
 fn archives() {
     let mut archive = [0u8; 6];
@@ -113,6 +122,7 @@ fn main() {
     refused_vectors();
     refused_texts();
     faulty_labels();
+    blanks();
     call_lines::unpack(&[0x00, 0x41]);
     archives();
     refused_lists();

@@ -27,8 +27,7 @@ const KINDS: [(Kind, usize, usize); 7] = [
 pub fn add(cases: &mut Vec<Case>, chance: &mut Chance) {
     for (kind, fewest, times) in KINDS {
         for _ in 0..times {
-            let n = chance.size_from(fewest);
-            let text = changed(chance, n, |chance, labels| kind(chance, labels));
+            let text = of_kind(chance, kind, fewest);
             cases.push(texts::case(text, chance));
         }
     }
@@ -40,6 +39,17 @@ pub fn add(cases: &mut Vec<Case>, chance: &mut Chance) {
         let text = one_label_too_many(chance);
         cases.push(texts::case(text, chance));
     }
+}
+
+/// A text of a kind by chance.
+pub fn any(chance: &mut Chance) -> Vec<u8> {
+    let (kind, fewest, _) = chance.one_of(&KINDS);
+    of_kind(chance, kind, fewest)
+}
+
+fn of_kind(chance: &mut Chance, kind: Kind, fewest: usize) -> Vec<u8> {
+    let n = chance.size_from(fewest);
+    changed(chance, n, kind)
 }
 
 /// The text of a tree of n leaves, its labels changed.
@@ -147,7 +157,7 @@ fn at_most_leaves(chance: &mut Chance, labels: &mut [usize]) {
 }
 
 /// 1,025 labels, stray ones and double ones in any order: 1, before 9 and 13.
-fn one_label_too_many(chance: &mut Chance) -> Vec<u8> {
+pub fn one_label_too_many(chance: &mut Chance) -> Vec<u8> {
     let labels: Vec<usize> = (0..=MOST_LEAVES).map(|_| chance.one_of(&[0, 1, 2, 9999])).collect();
     let mut text = labels[0].to_string();
     for label in &labels[1..MOST_LEAVES - 1] {

@@ -1,6 +1,7 @@
 //! The seeded cases of the program `calls`: all nine calls of 01, with right inputs
 //! and with every kind of damage that its table of refusals tells of. And those of
-//! the program `archive_cases`: the three calls of 02's archive, in the same way.
+//! the program `archive_cases`: the three calls of 02's archive, in the same way. And
+//! those of the program `text_cases`: texts with 02's blanks.
 //!
 //! A kind is a function that makes one input of its sort by chance. Each kind is
 //! used so many times with each call that takes it.
@@ -8,12 +9,16 @@
 pub mod archive_ends;
 pub mod archive_records;
 pub mod archives;
+pub mod blank_ends;
+pub mod blanks;
 pub mod chance;
 pub mod drafts;
 pub mod ends;
 pub mod labels;
 pub mod listings;
 pub mod lists;
+pub mod manners;
+pub mod newick_files;
 pub mod permutations;
 pub mod records;
 pub mod rooms;
@@ -26,6 +31,7 @@ use chance::Chance;
 
 const SEED: u64 = 20_240_229;
 const SEED_OF_ARCHIVES: u64 = 20_240_301;
+const SEED_OF_TEXTS: u64 = 20_240_302;
 
 /// The cases of `calls`, the same at every run.
 pub fn all() -> Vec<Case> {
@@ -49,5 +55,15 @@ pub fn of_archives() -> Vec<Case> {
     archives::add(&mut cases, &mut chance);
     archive_records::add(&mut cases, &mut chance);
     archive_ends::add(&mut cases, &mut chance);
+    cases
+}
+
+/// The cases of `text_cases`, the same at every run.
+pub fn of_texts() -> Vec<Case> {
+    let mut chance = Chance::from_seed(SEED_OF_TEXTS);
+    let mut cases = Vec::new();
+    blanks::add(&mut cases, &mut chance);
+    blank_ends::add(&mut cases, &mut chance);
+    newick_files::add(&mut cases, &mut chance);
     cases
 }

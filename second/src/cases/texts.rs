@@ -3,11 +3,12 @@
 //! 01: "Text: 2 (above 6,056 bytes, place 6056), 8, 1, 9, 3", and 02's 13. Damage: a byte
 //! missing, added or changed, a text cut short or gone on, labels with a leading
 //! zero or five digits, labels out of range or twice, too many labels, and too
-//! many brackets open at once. Labels with several faults are in `labels`.
+//! many brackets open at once. Labels with several faults are in `labels`, blanks in
+//! `blanks`.
 
 use super::chance::Chance;
 use super::{rooms, vectors};
-use crate::newick::{text, LONGEST_TEXT};
+use crate::newick::{text, MOST_SIGNS};
 use crate::stream::Case;
 use crate::tree::Tree;
 
@@ -35,7 +36,7 @@ const KINDS: [(Kind, usize); 18] = [
     (too_long, 10),
 ];
 
-const SIGNS: &[u8] = b"0123456789(),;";
+pub const SIGNS: &[u8] = b"0123456789(),;";
 
 pub fn add(cases: &mut Vec<Case>, chance: &mut Chance) {
     for (kind, times) in KINDS {
@@ -47,6 +48,12 @@ pub fn add(cases: &mut Vec<Case>, chance: &mut Chance) {
     for text in ["0;", "(0,1);", "((0,1),2);", "(0,((1,2),3));"] {
         at_every_byte(cases, chance, text.as_bytes());
     }
+}
+
+/// A text of a kind by chance.
+pub fn any(chance: &mut Chance) -> Vec<u8> {
+    let (kind, _) = chance.one_of(&KINDS);
+    kind(chance)
 }
 
 pub fn case(text: Vec<u8>, chance: &mut Chance) -> Case {
@@ -71,7 +78,7 @@ fn as_written(chance: &mut Chance) -> Vec<u8> {
     text(&Tree::of_vector(&vectors::right(chance))).into_bytes()
 }
 
-fn either_way_round(chance: &mut Chance) -> Vec<u8> {
+pub fn either_way_round(chance: &mut Chance) -> Vec<u8> {
     let v = vectors::right(chance);
     turned_text(chance, &v)
 }
@@ -130,7 +137,7 @@ fn byte_removed(chance: &mut Chance) -> Vec<u8> {
 }
 
 /// A text with one label by chance written in another way.
-fn with_label(chance: &mut Chance, write: impl FnOnce(&str, usize) -> String) -> Vec<u8> {
+pub fn with_label(chance: &mut Chance, write: impl FnOnce(&str, usize) -> String) -> Vec<u8> {
     let text = String::from_utf8(either_way_round(chance)).expect("a text is ASCII");
     let starts: Vec<usize> = (0..text.len()).filter(|&place| starts_label(&text, place)).collect();
     let start = starts[chance.index(starts.len())];
@@ -180,7 +187,7 @@ fn any_signs(chance: &mut Chance) -> Vec<u8> {
 
 /// Brackets nested to so many levels, with a label at each; the nodes that go
 /// down stand first or second.
-fn nested(levels: usize, down_first: bool) -> String {
+pub fn nested(levels: usize, down_first: bool) -> String {
     if down_first {
         let closing: String = (1..=levels).map(|label| format!(",{label})")).collect();
         format!("{}0{closing};", "(".repeat(levels))
@@ -191,7 +198,7 @@ fn nested(levels: usize, down_first: bool) -> String {
 }
 
 /// "The nesting may go down 1,023 levels": as deep as can be, or cut there.
-fn deep(chance: &mut Chance) -> Vec<u8> {
+pub fn deep(chance: &mut Chance) -> Vec<u8> {
     let mut text = nested(1023, chance.one_in(2));
     if chance.one_in(2) {
         text.truncate(chance.between(1023, text.len()));
@@ -201,7 +208,7 @@ fn deep(chance: &mut Chance) -> Vec<u8> {
 
 /// "A bracket that would be the 1,024th open at once breaks the grammar at its
 /// byte", whatever comes behind it.
-fn too_deep(chance: &mut Chance) -> Vec<u8> {
+pub fn too_deep(chance: &mut Chance) -> Vec<u8> {
     match chance.below(3) {
         0 => "(".repeat(chance.between(1024, 1026)).into_bytes(),
         1 => {
@@ -213,7 +220,7 @@ fn too_deep(chance: &mut Chance) -> Vec<u8> {
 }
 
 /// A legal text of 1,024 or more labels that all are one digit, in few levels.
-fn many_labels(chance: &mut Chance) -> Vec<u8> {
+pub fn many_labels(chance: &mut Chance) -> Vec<u8> {
     let labels = chance.one_of(&[1024, 1025, 1025, 1026, 1514]);
     let mut nodes: Vec<String> = (0..labels).map(|label| (label % 10).to_string()).collect();
     while nodes.len() > 1 {
@@ -230,7 +237,7 @@ fn many_labels(chance: &mut Chance) -> Vec<u8> {
 
 /// Texts of 6,056 bytes and more: right ones, and signs that mean nothing.
 fn too_long(chance: &mut Chance) -> Vec<u8> {
-    let length = LONGEST_TEXT + chance.one_of(&[0, 1, 1, 2, 500]);
+    let length = MOST_SIGNS + chance.one_of(&[0, 1, 1, 2, 500]);
     let mut text = if chance.one_in(3) { vec![b'('; 3] } else { nested(1023, true).into_bytes() };
     text.resize_with(length, || chance.one_of(SIGNS));
     text
