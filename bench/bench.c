@@ -32,9 +32,9 @@
 
 /* ---- The tree, in every notation ---- */
 
-static size_t n, rows_length, text_length, record_length;
+static size_t n, rows_length, text_length, spaced_length, record_length;
 static uint16_t v[LEAVES], rows[3 * LEAVES], permutation[LEAVES];
-static uint8_t text[TEXT], record[RECORD];
+static uint8_t text[TEXT], spaced[TEXT + LEAVES], record[RECORD];
 
 static uint64_t seed;
 
@@ -74,6 +74,15 @@ static void make_permutation(void) {
     }
 }
 
+/* The text with a blank behind every comma. */
+static void make_spaced(void) {
+    spaced_length = 0;
+    for (size_t k = 0; k < text_length; k++) {
+        spaced[spaced_length++] = text[k];
+        if (text[k] == ',') spaced[spaced_length++] = ' ';
+    }
+}
+
 static void make_tree(const struct kind *kind, size_t leaves) {
     n = leaves;
     seed = n;
@@ -82,6 +91,7 @@ static void make_tree(const struct kind *kind, size_t leaves) {
     make_permutation();
     rows_length = plain_to_table(v, n, rows);
     text_length = plain_to_newick(v, n, text);
+    make_spaced();
     record_length = plain_pack(v, n, record);
 }
 
@@ -96,6 +106,7 @@ static void plain_one_to_table(void) { answer[1] = plain_to_table(v, n, numbers)
 static void plain_one_from_table(void) { answer[1] = plain_from_table(n, rows, numbers); }
 static void plain_one_to_newick(void) { answer[1] = plain_to_newick(v, n, bytes); }
 static void plain_one_from_newick(void) { answer[1] = plain_from_newick(text, text_length, numbers); }
+static void plain_one_from_newick_blanks(void) { answer[1] = plain_from_newick_blanks(spaced, spaced_length, numbers); }
 static void plain_one_pack(void) { answer[1] = plain_pack(v, n, bytes); }
 static void plain_one_unpack(void) { answer[1] = plain_unpack(record, record_length, numbers); }
 static void plain_one_shuffle(void) { answer[1] = plain_shuffle(v, n, labels, numbers); }
@@ -106,12 +117,14 @@ static void library_to_table(void) { blathersike_to_table(v, n, numbers, 3 * LEA
 static void library_from_table(void) { blathersike_from_table(n, rows, rows_length, numbers, 3 * LEAVES, answer); }
 static void library_to_newick(void) { blathersike_to_newick(v, n, bytes, TEXT, answer); }
 static void library_from_newick(void) { blathersike_from_newick(text, text_length, numbers, 3 * LEAVES, answer); }
+static void library_from_newick_blanks(void) { blathersike_from_newick(spaced, spaced_length, numbers, 3 * LEAVES, answer); }
 static void library_pack(void) { blathersike_pack(v, n, bytes, TEXT, answer); }
 static void library_unpack(void) { blathersike_unpack(record, record_length, numbers, 3 * LEAVES, answer); }
 static void library_shuffle(void) { blathersike_shuffle(v, n, labels, LEAVES, numbers, 3 * LEAVES, answer); }
 static void library_relabel(void) { blathersike_relabel(v, n, permutation, n, numbers, 3 * LEAVES, answer); }
 
-#define FUNCTION(name, back) {#name, plain_one_##name, library_##name, (void (*)(void))blathersike_##name, back}
+#define MEASURE(name, call, back) {#name, plain_one_##name, library_##name, (void (*)(void))blathersike_##call, back}
+#define FUNCTION(name, back) MEASURE(name, name, back)
 
 static const struct function {
     const char *name;
@@ -121,7 +134,7 @@ static const struct function {
 } functions[] = {
     FUNCTION(check, 0),       FUNCTION(to_table, 0), FUNCTION(from_table, 1), FUNCTION(to_newick, 0),
     FUNCTION(from_newick, 1), FUNCTION(pack, 0),     FUNCTION(unpack, 1),     FUNCTION(shuffle, 0),
-    FUNCTION(relabel, 0),
+    FUNCTION(relabel, 0),     MEASURE(from_newick_blanks, from_newick, 1),
 };
 
 /* ---- Comparing ---- */

@@ -295,6 +295,27 @@ size_t plain_from_newick(const uint8_t *text, size_t length, uint16_t *v) {
     return n;
 }
 
+/* The same where blanks may stand between the signs. They are below every sign, so what finds the opening brackets finds them too. */
+size_t plain_from_newick_blanks(const uint8_t *text, size_t length, uint16_t *v) {
+    struct chains c;
+    struct cluster away[LEAVES], *top = away;
+    fill(c.last, lesser((unsigned)(length + 2) / 4, LEAVES), 0);
+    size_t n = 1;
+    for (;; n++) {
+        struct cluster now = {0, NO_PAIR};
+        while (*text <= '(') text++;
+        text = read_label(text, &now.name);
+        for (;; text++) {
+            for (; *text == ')'; text++) now = join(&c, *--top, now);
+            if (*text > ')') break;
+        }
+        if (*text++ == ';') break;
+        *top++ = now;
+    }
+    chains_to_vector(&c, n, v);
+    return n;
+}
+
 /* ---- Packed record ---- */
 
 #define RECORD 1280

@@ -18,6 +18,7 @@ size_t plain_to_table(const uint16_t *v, size_t n, uint16_t *rows);
 size_t plain_from_table(size_t n, const uint16_t *rows, uint16_t *v);
 size_t plain_to_newick(const uint16_t *v, size_t n, uint8_t *text);
 size_t plain_from_newick(const uint8_t *text, size_t length, uint16_t *v);
+size_t plain_from_newick_blanks(const uint8_t *text, size_t length, uint16_t *v); /* there may be blanks between the signs */
 size_t plain_pack(const uint16_t *v, size_t n, uint8_t *record);
 size_t plain_unpack(const uint8_t *record, size_t length, uint16_t *v);
 size_t plain_shuffle(const uint16_t *v, size_t n, uint16_t *new_labels, uint16_t *out);

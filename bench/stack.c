@@ -33,7 +33,7 @@ static size_t taken(void (*call)(void)) {
     return sizeof stack - k;
 }
 
-/* ---- The trees, and a text that breaks off at its deepest ---- */
+/* ---- The trees, and a text that breaks off at its deepest, without blanks and with them ---- */
 
 static uint16_t v[LEAVES], rows[3 * LEAVES], permutation[LEAVES], numbers[3 * LEAVES], labels[LEAVES];
 static uint8_t text[TEXT], record[RECORD], archive[4 + RECORD], bytes[TEXT];
@@ -104,6 +104,8 @@ int main(void) {
     size_t least = taken(nothing);
     for (size_t k = 0; k < sizeof kinds / sizeof *kinds; k++) make_tree(kinds[k]), try_all();
     memset(text, '(', text_length = TEXT);
+    try_all();
+    for (size_t k = 1; k < TEXT; k += 2) text[k] = ' ';
     try_all();
     for (size_t k = 0; k < sizeof calls / sizeof *calls; k++) printf("%-14s %7zu\n", calls[k].name, calls[k].most - least);
     return 0;
