@@ -5,7 +5,8 @@
  *
  *   vector   n numbers v(0) .. v(n-1), v(0) = 0 and v(i) <= 2(i-1) for i from 1 (Phylo2Vec)
  *   table    n-1 rows of three numbers: child, child, parent; row t has the parent n+t
- *   text     Newick, as "((0,1),2);", without lengths, names or blanks
+ *   text     Newick, as "((0,1),2);", without lengths or names; blanks (space, tab, carriage return, line feed) are read
+ *            anywhere but inside a label, and never written
  *   record   n in 11 bits and the vector's entries in as many bits as their bounds need, filled up to whole bytes
  *
  * Trees of one n go into an archive:
@@ -22,7 +23,7 @@
  * and overlaps no list. No two lists that are lent to one call overlap, inputs and outputs alike.
  *
  * Stack. In bytes, at the deepest, as measured over trees of 1,024 leaves (bench/run --stack): check 0, to_table 12,488,
- * from_table 17,800, to_newick 55,400, from_newick 53,368, pack 2,128, unpack 4,304, shuffle 28,184, relabel 22,024,
+ * from_table 17,800, to_newick 55,400, from_newick 55,432, pack 2,128, unpack 4,304, shuffle 28,184, relabel 22,024,
  * write_archive 2,160, read_tree 4,336, view 2,096, however many trees there are. Have 128 KiB free: nothing in the library
  * looks whether there is enough.
  *
@@ -84,8 +85,8 @@ void blathersike_from_table(size_t leaves, const uint16_t *rows, size_t rows_len
 void blathersike_to_newick(const uint16_t *v, size_t v_length, uint8_t *out, size_t out_length, uint64_t answer[2]);
 
 /*
- * Newick text to vector: n numbers. Refusals: 2 (above 6,056 bytes, place 6056), 8, 1, then 9 and 13 label by label in text
- * order, 3.
+ * Newick text to vector: n numbers. Refusals: 2 (above 65,536 bytes, place 65536), 2 (above 6,056 bytes that are no blanks,
+ * place 6056), 8, 1, then 9 and 13 label by label in text order, 3. Places count every byte of the text, blanks too.
  */
 void blathersike_from_newick(const uint8_t *text, size_t text_length, uint16_t *out, size_t out_length,
                              uint64_t answer[2]);
