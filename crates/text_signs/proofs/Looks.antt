@@ -1,8 +1,8 @@
 -- One look at the bytes of a text: a byte that is a blank, the least byte, how many signs there are, the place of one.
--- Main definitions: NotAbove, Counting, Placing. Main results: blank-last, least-next, plain-signs, count-blank,
+-- Main definitions: NotAbove, Counting, Placing. Main results: blank-last, behind-digit, least-next, plain-signs, count-blank,
 -- count-sign, count-end, placing-blank, placing-sign, placing-here, placing-end.
 use mathlib.Core.Path.{_≡_, refl, ap, _∙_}
-use mathlib.Core.Bool.{true, false}
+use mathlib.Core.Bool.{Bool, true, false, _&&_}
 use mathlib.Core.List.{List, [], _∷_}
 use Prim.Native.Nat.{ℕ, suc, min, _+_, _-_, _≤_, _<_}
 use native.Mathlib.Omega.{arith}
@@ -19,6 +19,10 @@ use Rattle.text_laws.specs.Bytes.{drop-byte}
 pub blank-last : (c : ℕ) → (c ≡ 32 → ⊥) → (c ≡ 9 → ⊥) → (c ≡ 13 → ⊥) → eqb c 10 ≡ blank c
 unfolding blank
 blank-last c a b d = rw (ne-eqb c 32 a, ne-eqb c 9 b, ne-eqb c 13 d)
+
+-- two digits, by what is known of the first
+pub behind-digit : {a b told : Bool} → a ≡ true → told ≡ b → told ≡ a && b
+behind-digit e f = rw e f
 
 -- no byte before place i is below the least one so far
 pub record NotAbove (s : List ℕ) (least i : ℕ) : Type 0 where

@@ -20,6 +20,7 @@ use Rattle.text_laws.specs.Bytes.{drop-byte, place-digit}
 use Rattle.text_laws.specs.Cells.{AllZero}
 use Rattle.text_laws.specs.Answers.{Same}
 use Rattle.text_signs.specs.Keeping.{keptOf, SignsKept, KeptIn}
+use Rattle.text_signs.specs.declared.Kept.{Kept}
 use Rattle.text_signs.specs.declared.Kept.the-variants.{Signs, TooMany}
 
 -- the first i bytes are squeezed to q signs, of which the last is given, or 0 where there is none
@@ -120,8 +121,8 @@ module _ {s array : List ℕ} {last q i : ℕ} (S : Squeezing s array last q i) 
           record { few = omega (arith, S .counts); count = ap length all ∙ S .count; there = rw all (S .there) }
 
       -- a digit behind it does: what is kept ends here
-      pub squeezing-parted : isDigit last && isDigit (getD s (i + 1) 0) ≡ true → KeptIn s array (keptOf q (q + length (signs (drop i s))))
-      squeezing-parted parts-it = go (ltb 6056 (q + length (signs (drop i s)))) refl
+      pub squeezing-parted : {told : Kept} → told ≡ keptOf q (q + length (signs (drop i s))) → isDigit last && isDigit (getD s (i + 1) 0) ≡ true → KeptIn s array told
+      squeezing-parted is parts-it = rw is (go (ltb 6056 (q + length (signs (drop i s)))) refl)
         where
           go : (b : Bool) → ltb 6056 (q + length (signs (drop i s))) ≡ b → KeptIn s array (cond b TooMany (Signs q))
           go true f = omega (arith, S .counts, ltb-true 6056 (q + length (signs (drop i s))) f)

@@ -59,8 +59,8 @@ unfolding kept
 kept-in-front {s} K = record { short = omega (arith, K .few, kept-fewer other s); long = K .count; same = K .there }
 
 -- they break the grammar
-pub broken-at : {s : List ℕ} (k : ℕ) → NotLong s → BreaksAt Text (kept s) k → FromText s (refuses 8 (placeOf s k))
-broken-at {s} k short b = breaks short (kept-breaks s k b)
+pub broken-at : {s : List ℕ} {place : ℕ} (k : ℕ) → place ≡ placeOf s k → NotLong s → BreaksAt Text (kept s) k → FromText s (refuses 8 place)
+broken-at {s} k e short b = rw e (breaks short (kept-breaks s k b))
 
 -- what is kept of a text of n labels is read into an array of zeros
 pub record Taken (s m m′ : List ℕ) (n : ℕ) : Type 0 where

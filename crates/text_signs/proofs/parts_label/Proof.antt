@@ -4,6 +4,7 @@ use lib.ListN.{List·getD-eq-default}
 use Rattle.rules.specs.Newick.{isDigit}
 use Rattle.basics.specs.Bools.{and-false}
 use borrow.Author.Needs.{needs}
+use Rattle.text_signs.proofs.Looks.{behind-digit}
 use Rattle.text_signs.proofs.parts_label.Statement.{statement}
 use Rattle.text_signs.proofs.parts_label.Tie as tie
 use Rattle.text_signs.proofs.parts_label.Reads as reads
@@ -24,7 +25,7 @@ digit-requires-2 : tie.Need-digit-requires-2
 digit-requires-2 c κs = search needs
 
 returns-2 : tie.Need-returns-2
-returns-2 c = rw (sym (c .before .before .before .digit .ensures) ∙ c .before .before .if2 .taken) (c .digit2 .ensures)
+returns-2 c = behind-digit (sym (c .before .before .before .digit .ensures) ∙ c .before .before .if2 .taken) (c .digit2 .ensures)
 
 returns-3 : tie.Need-returns-3
 returns-3 c = rw (sym (c .before .digit .ensures) ∙ c .if2 .left)

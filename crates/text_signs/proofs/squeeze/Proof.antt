@@ -40,7 +40,7 @@ returns : tie.Need-returns Inv-loop μ-loop
 returns c =
     let blank = sym (c .before .before .before .before .is-blank .ensures) ∙ c .before .before .before .if1 .taken in
     let parts = sym (c .before .before .parts-label .ensures) ∙ c .before .if2 .taken in
-    rw (c .kept-before .ensures) (squeezing-parted (c .before .before .before .before .before .before .before .loop .inv) (c .before .before .before .before .before .before .loop-test .taken) blank parts)
+    squeezing-parted (c .before .before .before .before .before .before .before .loop .inv) (c .before .before .before .before .before .before .loop-test .taken) blank (c .kept-before .ensures) parts
 
 returns-2 : tie.Need-returns-2 Inv-loop μ-loop
 returns-2 c = squeezing-many (c .before .before .before .before .before .loop .inv) (c .before .before .before .before .loop-test .taken) (sym (c .before .before .is-blank .ensures) ∙ c .before .if1 .left) (c .if3 .taken)

@@ -73,7 +73,7 @@ returns-3 : tie.Need-returns-3
 returns-3 c =
     let start = c .before .before .before .before .before .before .before .before in
     let b = rw (c .before .before .k .given .1) at (c .before .before .before .before .read-text .ensures (kept (start .args .s .now)) (kept-in-front (start .pre .0))) in
-    rw (c .place-of .ensures) (broken-at _ (short (c .before .before .before .before)) b)
+    broken-at _ (c .place-of .ensures) (short (c .before .before .before .before)) b
 
 same-length : tie.Need-same-length
 same-length c = search needs
