@@ -29,8 +29,9 @@ pub const REFUSED_TEXTS: [&str; 7] = ["", "01;", "(0,1)", "(0,1,2);", "12345;", 
 pub const FAULTY_LABELS: [&str; 4] = ["((0,7),0);", "((0,0),7);", "((1,0),1);", "(7,7);"];
 
 /// Texts with blanks: done; 8 at 2, where a label is parted, and at 6, since the blank
-/// behind a text that ends early counts; 9 at 6 and 13 at 6.
-pub const WITH_BLANKS: [&str; 5] = ["( 0 , 1 ) ; ", "1 2;", "(0,1) ", "( 0 , 7 );", "( 0 , 0 );"];
+/// behind a text that ends early counts; 8 at the x; 9 at 6 and 13 at 6.
+pub const WITH_BLANKS: [&str; 7] =
+    ["( 0 , 1 ) ; ", "1 2;", "(0,1) ", "(0,1) x", "(0,1);x", "( 0 , 7 );", "( 0 , 0 );"];
 
 /// "Rows 1,0,4; 3,2,5; 5,4,6 give 0,0,2,2".
 pub const ROWS: [u16; 9] = [1, 0, 4, 3, 2, 5, 5, 4, 6];

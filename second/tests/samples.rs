@@ -101,6 +101,8 @@ fn texts_with_blanks() {
         ("( 0 , 1 ) ; ", Done(2)),
         ("1 2;", refused(8, 2)),
         ("(0,1) ", refused(8, 6)),
+        ("(0,1) x", refused(8, 6)),
+        ("(0,1);x", refused(8, 6)),
         ("( 0 , 7 );", refused(9, 6)),
         ("( 0 , 0 );", refused(13, 6)),
     ];
@@ -143,7 +145,7 @@ fn the_lines_hold_all_samples() {
     ] {
         assert_eq!(lines.matches(wanted).count(), 1, "{wanted}");
     }
-    assert_eq!(lines.lines().count(), 8 * 8 + 2 + 4 * 6 + 11 + 5 + 1 + ARCHIVES.len());
+    assert_eq!(lines.lines().count(), 8 * 8 + 2 + 4 * 6 + 11 + 7 + 1 + ARCHIVES.len());
 }
 
 /// The lines of the archive, the last ones.

@@ -70,6 +70,8 @@ fn blanks() {
     call_lines::from_newick(b"( 0 , 1 ) ; ");
     call_lines::from_newick(b"1 2;");
     call_lines::from_newick(b"(0,1) ");
+    call_lines::from_newick(b"(0,1) x");
+    call_lines::from_newick(b"(0,1);x");
     call_lines::from_newick(b"( 0 , 7 );");
     call_lines::from_newick(b"( 0 , 0 );");
 }
