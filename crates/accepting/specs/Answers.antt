@@ -7,7 +7,7 @@ use native.Mathlib.Omega.{arith}
 use lib.Dec.{eqb}
 use Rattle.rules.specs.Answer.{Outcome, done, refused, numberOf, reads, made, refuses}
 use Rattle.rules.specs.declared.Kind.{Kind}
-use Rattle.rules.specs.declared.Kind.the-variants.{LeafCount, InputLength, Room, Entry, Parent, Child, NamedBefore, Grammar, StrayLabel, Padding, Permutation, TreeNumber, DoubleLabel, TreeCount}
+use Rattle.rules.specs.declared.Kind.the-variants.{LeafCount, InputLength, Room, Entry, Parent, Child, NamedBefore, Grammar, StrayLabel, Padding, Permutation, TreeNumber, DoubleLabel, CladeLeaves, CladeRoom, TreeCount}
 use Rattle.rules.specs.declared.Answer.{Answer}
 use Rattle.rules.specs.declared.Answer.the-variants.{Done, Refused}
 
@@ -40,7 +40,9 @@ kindOf k =
     (cond (eqb k 10) Padding
     (cond (eqb k 11) Permutation
     (cond (eqb k 12) TreeNumber
-    (cond (eqb k 13) DoubleLabel TreeCount))))))))))))
+    (cond (eqb k 13) DoubleLabel
+    (cond (eqb k 14) CladeLeaves
+    (cond (eqb k 15) CladeRoom TreeCount))))))))))))))
 
 kind-of-number : (k : Kind) → kindOf (numberOf k) ≡ k
 unfolding kindOf numberOf
@@ -57,6 +59,8 @@ kind-of-number Padding = refl
 kind-of-number Permutation = refl
 kind-of-number TreeNumber = refl
 kind-of-number DoubleLabel = refl
+kind-of-number CladeLeaves = refl
+kind-of-number CladeRoom = refl
 kind-of-number TreeCount = refl
 
 -- the answer of an outcome

@@ -21,6 +21,8 @@ pub fn number_of(kind: Kind) -> u64
         Kind::Permutation => 11,
         Kind::TreeNumber => 12,
         Kind::DoubleLabel => 13,
+        Kind::CladeLeaves => 14,
+        Kind::CladeRoom => 15,
         Kind::TreeCount => 21,
     }
 }

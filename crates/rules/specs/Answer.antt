@@ -3,7 +3,7 @@
 use mathlib.Core.List.{List}
 use Prim.Native.Nat.{ℕ}
 use Rattle.rules.specs.declared.Kind.{Kind}
-use Rattle.rules.specs.declared.Kind.the-variants.{LeafCount, InputLength, Room, Entry, Parent, Child, NamedBefore, Grammar, StrayLabel, Padding, Permutation, TreeNumber, DoubleLabel, TreeCount}
+use Rattle.rules.specs.declared.Kind.the-variants.{LeafCount, InputLength, Room, Entry, Parent, Child, NamedBefore, Grammar, StrayLabel, Padding, Permutation, TreeNumber, DoubleLabel, CladeLeaves, CladeRoom, TreeCount}
 use Rattle.rules.specs.declared.Answer.{Answer}
 use Rattle.rules.specs.declared.Answer.the-variants.{Done, Refused}
 
@@ -27,6 +27,8 @@ numberOf Padding = 10
 numberOf Permutation = 11
 numberOf TreeNumber = 12
 numberOf DoubleLabel = 13
+numberOf CladeLeaves = 14
+numberOf CladeRoom = 15
 numberOf TreeCount = 21
 
 -- the outcome that an answer stands for

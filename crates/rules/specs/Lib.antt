@@ -24,9 +24,12 @@ pub mod Archive
 pub mod CallWriteArchive
 pub mod CallReadTree
 pub mod CallView
+pub mod CladeTable
+pub mod CallCladeTable
 pub mod CallShuffle
 pub mod CallRelabel
 pub mod Listing
 pub mod Samples
 pub mod ArchiveSamples
+pub mod CladeSamples
 pub mod TextSamples

@@ -1,5 +1,5 @@
 // What the public calls hand back, by value: the answer, of which specs/Answer.antt gives each case the paper's number and values, and the
-// part of a lent list that is viewed.
+// part of a lent list that is viewed. And the entries of the clade table, which go into a lent list.
 
 /// Why an input is refused: one case for each number of the refusal table, in its order.
 pub enum Kind {
@@ -16,6 +16,8 @@ pub enum Kind {
     Permutation,
     TreeNumber,
     DoubleLabel,
+    CladeLeaves,
+    CladeRoom,
     TreeCount,
 }
 
@@ -35,4 +37,12 @@ pub enum Answer {
 pub struct Part {
     pub start: usize,
     pub length: usize,
+}
+
+/// An entry of the clade table: the leaf set of a clade, leaf x as bit x; how many leaves it has; in how many trees it occurs.
+#[repr(C)]
+pub struct Clade {
+    pub leaves: u64,
+    pub size: u32,
+    pub count: u32,
 }

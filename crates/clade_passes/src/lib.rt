@@ -1,0 +1,1 @@
+// The clade table by passes over an archive: no code here; specs/ has the definitions and their laws.
