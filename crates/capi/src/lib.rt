@@ -1,5 +1,6 @@
 // The C interface: one exported function a call. include/blathersike.h documents each.
 use rules::Answer;
+use rules::Clade;
 ghost use mathlib.Core.List.{[], _∷_};
 ghost use mathlib.Core.Path.{_≡_};
 ghost use Rattle.rules.specs.Answer.{reads};
@@ -15,6 +16,7 @@ ghost use Rattle.rules.specs.CallRelabel.{relabel-call};
 ghost use Rattle.rules.specs.CallWriteArchive.{write-archive-call};
 ghost use Rattle.rules.specs.CallReadTree.{read-tree-call};
 ghost use Rattle.rules.specs.CallView.{partOf};
+ghost use Rattle.rules.specs.CallCladeTable.{clade-table-call};
 ghost use Rattle.rules.specs.Coded.{coded, Hands};
 
 // The two numbers of an answer.
@@ -147,4 +149,12 @@ pub extern "C" fn blathersike_view(archive: &[u8], tree: usize, part: &mut [u64;
 {
     let found = trees::part(archive, tree);
     *part = [found.start as u64, found.length as u64];
+}
+
+// The clade table of an archive.
+#[no_mangle]
+pub extern "C" fn blathersike_clade_table(archive: &[u8], out: &mut [Clade], back: &mut [u64; 2])
+    ensures { λ r. ⌜ Hands (clade-table-call (now (archive .entry))) (now (out .entry)) (now (back .exit)) (now (out .exit)) ⌝ }
+{
+    hand_back(trees::clade_table(archive, out), back);
 }

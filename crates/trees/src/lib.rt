@@ -39,3 +39,6 @@ pub use archive_calls::read_tree;
 // read_tree gives 1, 2 or 12.
 pub use archive_calls::part;
 pub use archive_calls::view;
+
+// clade_table(archive, out): the clades of an archive's trees: 2 (under 4 bytes), 1, 14, 2 (not the implied length), then 4 and 10 tree by tree, 15.
+pub use clade_calls::clade_table;

@@ -1,0 +1,2 @@
+pub mod Checked
+pub mod Filling

@@ -1,0 +1,2 @@
+pub mod Tree
+pub mod Pass
