@@ -19,10 +19,11 @@ use Rattle.rules.specs.CallPack.{pack-call}
 use Rattle.rules.specs.CallUnpack.{unpack-call}
 use Rattle.rules.specs.CallWriteArchive.{write-archive-call}
 use Rattle.rules.specs.CallReadTree.{read-tree-call}
+use Rattle.rules.specs.CallCladeTable.{clade-table-call}
 use Rattle.rules.specs.CallShuffle.{shuffle-call}
 use Rattle.rules.specs.CallRelabel.{relabel-call}
 use Rattle.demands.specs.Law.{Lawful}
-use Rattle.demands.specs.Shapes.{Shape, no-buffer, one-buffer, two-buffers}
+use Rattle.demands.specs.Shapes.{Shape, no-buffer, one-buffer, two-buffers, entry-buffer}
 use Rattle.demands.specs.LawVector.{VectorRefused}
 use Rattle.demands.specs.LawCheck.{lawful-check}
 use Rattle.demands.specs.LawToTable.{lawful-to-table}
@@ -33,6 +34,7 @@ use Rattle.demands.specs.LawPack.{lawful-pack}
 use Rattle.demands.specs.LawUnpack.{RecordRefused, lawful-unpack}
 use Rattle.demands.specs.LawWriteArchive.{ArchiveRefused, lawful-write-archive}
 use Rattle.demands.specs.LawReadTree.{TreeRefused, lawful-read-tree}
+use Rattle.demands.specs.LawCladeTable.{CladesRefused, tableLength, lawful-clade-table}
 use Rattle.demands.specs.LawShuffle.{lawful-shuffle}
 use Rattle.demands.specs.LawRelabel.{RelabelRefused, lawful-relabel}
 
@@ -49,6 +51,7 @@ pub data Name : Type 0 where
   Relabel : Name
   WriteArchive : Name
   ReadTree : Name
+  CladeTable : Name
 
 -- a public call on an input
 pub data Public : Type 0 where
@@ -63,6 +66,7 @@ pub data Public : Type 0 where
   relabels : List ℕ → List ℕ → Public
   writes-archive : ℕ → List ℕ → Public
   reads-tree : List ℕ → ℕ → Public
+  clade-table : List ℕ → Public
 
 -- a call, its name and its buffers; when it refuses its input, with which number and place; how many elements it writes; and that this is so
 pub record Known : Type 1 where
@@ -92,6 +96,7 @@ the (relabels v p) = known Relabel (relabel-call v p) one-buffer (RelabelRefused
 the (writes-archive n xs) =
     known WriteArchive (write-archive-call n xs) one-buffer (ArchiveRefused n xs) (impliedLength n (length xs / n)) (lawful-write-archive n xs)
 the (reads-tree s r) = known ReadTree (read-tree-call s r) one-buffer (TreeRefused s r) (leafCount s) (lawful-read-tree s r)
+the (clade-table s) = known CladeTable (clade-table-call s) entry-buffer (CladesRefused s) (tableLength s) (lawful-clade-table s)
 
 -- the buffers that are lent to a call
 abbrev pub Lent : Public → Type 0

@@ -2,7 +2,7 @@
 -- over the promises of the public calls that stand there, never over code; the crate `tie` has the functions under these same promises.
 --
 -- The promise. rules, Promise.Keeps c old a new: the answer a, and what the lent buffers hold afterwards, are those that what the call c makes of
--- its input (rules, Call*) and the room lent give. Calls.Public has the eleven calls, each with its input; Lent the buffers lent to each (Shapes);
+-- its input (rules, Call*) and the room lent give. Calls.Public has the twelve calls, each with its input; Lent the buffers lent to each (Shapes);
 -- Kept its promise.
 --
 -- Demand 1. "Every input gets a finished answer;"
@@ -12,9 +12,9 @@
 --     DemandOne.refused-exactly: a call refuses with a number and a place exactly when the condition holds that 01 gives. There is a line for each
 --     number and each kind of input, in 01's order: LawVector.VectorRefused (1, 4), LawRelabel.RelabelRefused (then 2, 11),
 --     LawFromTable.TableRefused (1, 2, rows upward with 5, 6, 7 in each), LawFromNewick.TextRefused (2, 2, 8, 1, 9 and 13), LawUnpack.RecordRefused
---     (2, 1, 2, 4, 10), LawWriteArchive.ArchiveRefused (1, 21, 2, 4), LawReadTree.TreeRefused (2, 1, 2, 12, 4, 10); "Of one number, the first place
---     counts": rules First, Conditions.FirstRow. 3 comes last: room-exactly. No two conditions hold at once: one-refusal. Done: done-exactly, with
---     the count.
+--     (2, 1, 2, 4, 10), LawWriteArchive.ArchiveRefused (1, 21, 2, 4), LawReadTree.TreeRefused (2, 1, 2, 12, 4, 10), LawCladeTable.CladesRefused
+--     (2, 1, 14, 2, tree by tree 4 and 10); "Of one number, the first place counts": rules First, Conditions.FirstRow. 3 comes last, for the clade
+--     table 15: room-exactly. No two conditions hold at once: one-refusal. Done: done-exactly, with the count.
 -- "and every lent buffer then holds what it held."
 --     DemandOne.refusal-writes-nothing.
 --
@@ -80,9 +80,26 @@
 -- "2 is now given first for a text above 65,536 bytes (place 65536), then for more than 6,056 bytes that aren't blanks (place 6056)."
 --     LawFromNewick.TextRefused, text-2 and text-2-signs.
 --
+-- CR 4, the clade table. What the table is stands in the crate clade_demands, which is above this one.
+-- "build a table in a lent list of entries: one entry for each different clade of two leaves or more, its leaf set as a 64-bit number (leaf x is bit x),
+-- its size, and in how many trees it occurs. Entries rise by leaf set."
+--     clade_demands Answered.done-table: where the call is done the first entries of the lent list are the clade table, as many as the answer says:
+--     CladeTable.CladeTableOf with each-clade, rises, sizes, counts. No other list is one: table-made-exactly. "archive": the trees are those that the
+--     reader of tree r reads, TreesRead.each-tree-read; of an archive that is written, those of its vectors: TreesRead.table-written.
+-- "The counts, each defined from the trees and not from the table, add up to trees times (n-1)."
+--     clade_demands CladeTable.Sums, add-up; a count is defined by the reader and by 01's clades: Occurs.HasClade, HowMany. In whatever order the trees
+--     stand: CladeTable.order-does-not-count, Answered.reordered-answers.
+-- "Refusals: the archive's header refusals, with 14 for n above 64 (place n) directly after 1; then 4 and 10 tree by tree;"
+--     LawCladeTable.CladesRefused, in DemandOne.refused-exactly as those of every call. None is given exactly where n is up to 64, the length is the
+--     implied one and the reader reads every tree: clade_demands Answered.right-exactly.
+-- "and last 15, exactly when there are more different clades than entries lent (place: entries needed)."
+--     DemandOne.room-exactly, in these words: clade_demands Answered.refused-15-exactly; done: done-exactly. No trees, or one leaf: no-trees-done,
+--     one-leaf-done.
+--
 -- The other files are on the way there: FirstPlace, FirstEntry and FirstWrongRow (the searches of the rules find the first place), Cases (each condition
 -- holds or not), Law (demand 1 for any call), Law* (when each call refuses, and that it makes what is wanted), Long (how many elements that is),
--- EachCall (for every vector an input of each call that is done).
+-- TreesRead (the trees of an archive are those that are read), EachCall (for every vector an input of each call that is done, for the clade table for
+-- every one of up to 64 entries).
 pub mod Conditions
 pub mod FirstPlace
 pub mod FirstWrongRow
@@ -100,6 +117,7 @@ pub mod LawPack
 pub mod LawUnpack
 pub mod LawWriteArchive
 pub mod LawReadTree
+pub mod LawCladeTable
 pub mod LawShuffle
 pub mod LawRelabel
 pub mod Shapes
@@ -109,6 +127,7 @@ pub mod Relabelled
 pub mod WrittenTable
 pub mod WrittenText
 pub mod DemandTwo
+pub mod TreesRead
 pub mod View
 pub mod Depends
 pub mod Leads

@@ -7,6 +7,7 @@ use mathlib.Core.List.{List, [], _∷_, _++_, append-assoc}
 use mathlib.Core.Logic.{_≢_}
 use mathlib.Core.Path.{_≡_, refl, sym, ap, ap₂, _∙_}
 use Prim.Native.Nat.{ℕ, _≤_}
+use native.Mathlib.Omega.{arith}
 use lib.Dec.{eqb}
 use lib.ListN.{length, take, drop, getD, take-append-drop}
 use lib.Seq.{drop-at}
@@ -23,14 +24,16 @@ use Rattle.rules.specs.Newick.{textOf}
 use Rattle.rules.specs.Record.{recordOf}
 use Rattle.rules.specs.Archive.{archiveOf}
 use Rattle.rules.specs.Shuffle.{renamed, newOf}
+use Rattle.rules.specs.CladeTable.{treesOf, cladeTable}
 use Rattle.rules.specs.CallCheck.{check}
 use Rattle.accepting.specs.Answers.{done-not-refused}
 use Rattle.demands.specs.Calls.{Name, Public, to-table, the, Lent}
 use Rattle.demands.specs.Law.{done-made}
+use Rattle.demands.specs.Shapes.{flat, blank}
 use Rattle.demands.specs.DemandOne.{wanted, done-exactly, every-input-answered, promise-unique}
 use Rattle.demands.specs.Relabelled.{unmoved}
 use Rattle.demands.specs.DemandTwo.{Vector, accepted-exactly, demand-two}
-use Rattle.demands.specs.EachCall.{Buffer, to-table-out, from-table-out, to-newick-out, from-newick-out, pack-out, unpack-out, shuffle-new, shuffle-out, relabel-out, write-archive-out, read-tree-out}
+use Rattle.demands.specs.EachCall.{Buffer, to-table-out, from-table-out, to-newick-out, from-newick-out, pack-out, unpack-out, shuffle-new, shuffle-out, relabel-out, write-archive-out, read-tree-out, clade-table-out}
 use Rattle.demands.specs.EachCall.{bufferOf, Library, KeepsAll, counts, Try, asks, asks-call, counted, lent, before, after, asked-done}
 
 -- the vectors that are tried: the trees (0,(1,2)); and ((0,1),2); and trees of one leaf and of five
@@ -51,16 +54,16 @@ unfolding check
 five-ok = accepted-exactly _ .0 refl
 
 abbrev pub first : Try
-first = (0 ∷ 0 ∷ 1 ∷ [], first-ok)
+first = (0 ∷ 0 ∷ 1 ∷ [], first-ok, omega arith)
 
 abbrev pub second : Try
-second = (0 ∷ 0 ∷ 2 ∷ [], second-ok)
+second = (0 ∷ 0 ∷ 2 ∷ [], second-ok, omega arith)
 
 abbrev one-leaf : Try
-one-leaf = (0 ∷ [], one-ok)
+one-leaf = (0 ∷ [], one-ok, omega arith)
 
 abbrev five-leaves : Try
-five-leaves = (0 ∷ 0 ∷ 0 ∷ 0 ∷ 0 ∷ [], five-ok)
+five-leaves = (0 ∷ 0 ∷ 0 ∷ 0 ∷ 0 ∷ [], five-ok, omega arith)
 
 -- "One that refuses everything": no one call may refuse all its inputs
 pub not-refuse-everything : (library : Library) (k : Name) → ((c : Public) → the c .name ≡ k → (old : Lent c) → (r : Refusal) × (library c old .0 ≡ Refused r))
@@ -81,7 +84,7 @@ record Tried (k : Name) (j : ℕ) : Type 0 where
   other-count : eqb (counted k one-leaf) (counted k five-leaves) ≡ false
 
 tried : {k : Name} {j : ℕ} → Buffer k j → Tried k j
-unfolding tableOf textOf recordOf archiveOf treeOf vectorOf renamed newOf unmoved
+unfolding tableOf textOf recordOf archiveOf treeOf vectorOf renamed newOf unmoved cladeTable treesOf flat blank
 tried to-table-out = record { same-count = refl; same-before = refl; place = 0; differs = refl; changes = refl; other-count = refl }
 tried from-table-out = record { same-count = refl; same-before = refl; place = 2; differs = refl; changes = refl; other-count = refl }
 tried to-newick-out = record { same-count = refl; same-before = refl; place = 1; differs = refl; changes = refl; other-count = refl }
@@ -93,6 +96,7 @@ tried shuffle-out = record { same-count = refl; same-before = refl; place = 2; d
 tried relabel-out = record { same-count = refl; same-before = refl; place = 2; differs = refl; changes = refl; other-count = refl }
 tried write-archive-out = record { same-count = refl; same-before = refl; place = 4; differs = refl; changes = refl; other-count = refl }
 tried read-tree-out = record { same-count = refl; same-before = refl; place = 2; differs = refl; changes = refl; other-count = refl }
+tried clade-table-out = record { same-count = refl; same-before = refl; place = 0; differs = refl; changes = refl; other-count = refl }
 
 module _ (library : Library) (k : Name) (j : ℕ) (B : Buffer k j) where
   -- "One fixed vector for all": in no buffer of any call may one fixed list stand wherever it is done, not even one for each count

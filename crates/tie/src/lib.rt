@@ -1,12 +1,14 @@
 // The tie between the demands and the functions: each public function, and each C function, under the promise that the theorems of
-// `demands` are about. A function whose contract promises less leaves its line here unproved. There is no proof file: both say the same.
+// `demands` are about. A function whose contract promises less leaves its line here unproved. There is no proof file but for the two over a
+// slice of structs, which are walks by hand: both say the same.
 use rules::Answer;
+use rules::Clade;
 use rules::Part;
 ghost use Rattle.rules.specs.Coded.{Hands};
 ghost use mathlib.Core.List.{[], _∷_};
 ghost use mathlib.Core.Path.{_≡_};
 ghost use Rattle.rules.specs.CallView.{partOf, view};
-ghost use Rattle.demands.specs.Calls.{checks, to-table, from-table, to-newick, from-newick, packs, unpacks, shuffles, relabels, writes-archive, reads-tree, the, Kept};
+ghost use Rattle.demands.specs.Calls.{checks, to-table, from-table, to-newick, from-newick, packs, unpacks, shuffles, relabels, writes-archive, reads-tree, clade-table, the, Kept};
 
 pub fn check(v: &[u16]) -> Answer
     ensures { λ r. ⌜ Kept (checks (now (v .entry))) tt r tt ⌝ }
@@ -72,6 +74,12 @@ pub fn read_tree(archive: &[u8], tree: usize, out: &mut [u16]) -> Answer
     ensures { λ r. ⌜ Kept (reads-tree (now (archive .entry)) tree) (now (out .entry)) r (now (out .exit)) ⌝ }
 {
     trees::read_tree(archive, tree, out)
+}
+
+pub fn clade_table(archive: &[u8], out: &mut [Clade]) -> Answer
+    ensures { λ r. ⌜ Kept (clade-table (now (archive .entry))) (now (out .entry)) r (now (out .exit)) ⌝ }
+{
+    trees::clade_table(archive, out)
 }
 
 pub fn view<'a>(archive: &'a [u8], tree: usize) -> &'a [u8]
@@ -150,6 +158,12 @@ pub fn c_read_tree(archive: &[u8], tree: usize, out: &mut [u16], back: &mut [u64
     ensures { λ r. ⌜ Hands (the (reads-tree (now (archive .entry)) tree) .call) (now (out .entry)) (now (back .exit)) (now (out .exit)) ⌝ }
 {
     capi::blathersike_read_tree(archive, tree, out, back);
+}
+
+pub fn c_clade_table(archive: &[u8], out: &mut [Clade], back: &mut [u64; 2])
+    ensures { λ r. ⌜ Hands (the (clade-table (now (archive .entry))) .call) (now (out .entry)) (now (back .exit)) (now (out .exit)) ⌝ }
+{
+    capi::blathersike_clade_table(archive, out, back);
 }
 
 pub fn c_view(archive: &[u8], tree: usize, part: &mut [u64; 2])

@@ -1,0 +1,1 @@
+// What is proved of the clade table over its public promise. No code.
