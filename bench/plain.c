@@ -1,6 +1,10 @@
-/* plain.c: see plain.h. The parts: fills, vector to merges, merges to vector, then each notation, the leaves, the check. */
+/*
+ * plain.c: see plain.h. The parts: fills, vector to merges, merges to vector, then each notation, the clade table, the leaves, the
+ * check.
+ */
 #include "plain.h"
 
+#include <stdlib.h>
 #include <string.h>
 
 #define LEAVES 1024
@@ -465,6 +469,216 @@ size_t plain_read_tree(const uint8_t *archive, size_t tree, uint16_t *v) {
     memcpy(lent, archive + HEADER + tree * length, length);
     take_fields(lent, 0, n, v);
     return n;
+}
+
+/* ---- Clade table ---- */
+
+#define SETS 64 /* leaves that a set can have */
+
+typedef struct blathersike_clade clade;
+
+/* The sets found so far, each at the first free place from the one that its hash says. Three places of four are free. */
+struct sets {
+    clade *places; /* leaves 0: free; the size is only known at the end */
+    size_t count, most;
+    size_t last; /* the last place, in bytes: a hash is cut by it, and needs no further step to an address */
+};
+
+#define FIRST_PLACES 256
+#define FREE 4
+
+static void *heap(size_t bytes) {
+    void *room = malloc(bytes);
+    if (!room) abort();
+    return room;
+}
+
+static void make_sets(struct sets *s, size_t places) {
+    size_t bytes = places * sizeof *s->places;
+    s->places = memset(heap(bytes), 0, bytes);
+    s->count = 0, s->most = places / FREE, s->last = bytes - sizeof *s->places;
+}
+
+static inline clade *at_byte(const struct sets *s, size_t byte) { return (clade *)((char *)s->places + byte); }
+
+/* Both halves of a product: the lowest bits of the lower half tell small sets apart, those of the upper half large ones. */
+static inline size_t hash(const struct sets *s, uint64_t leaves) {
+    unsigned __int128 product = (unsigned __int128)leaves * 0x9e3779b97f4a7c15;
+    return (size_t)(product >> 64 ^ product) & s->last;
+}
+
+static inline clade *free_place(const struct sets *s, uint64_t leaves) {
+    size_t byte = hash(s, leaves);
+    while (at_byte(s, byte)->leaves) byte = (byte + sizeof(clade)) & s->last;
+    return at_byte(s, byte);
+}
+
+static void grow(struct sets *s) {
+    struct sets old = *s;
+    make_sets(s, 2 * FREE * old.most);
+    for (clade *c = old.places, *end = c + FREE * old.most; c < end; c++)
+        if (c->leaves) *free_place(s, c->leaves) = *c;
+    s->count = old.count;
+    free(old.places);
+}
+
+/* Apart, so that a set that is known costs no more than it must. */
+static void __attribute__((noinline)) add_set(struct sets *s, uint64_t leaves) {
+    if (s->count == s->most) grow(s);
+    *free_place(s, leaves) = (clade){leaves, 0, 1};
+    s->count++;
+}
+
+static inline void count_set(struct sets *s, uint64_t leaves) {
+    size_t byte = hash(s, leaves);
+    while (__builtin_expect(at_byte(s, byte)->leaves != leaves, 0)) {
+        if (!at_byte(s, byte)->leaves) {
+            add_set(s, leaves);
+            return;
+        }
+        byte = (byte + sizeof(clade)) & s->last;
+    }
+    at_byte(s, byte)->count++;
+}
+
+/* The merges of up to 64 leaves: a name is a byte, and four instructions load all that may stand behind a place in the list. */
+struct few_merges {
+    uint8_t room[3 * SETS];
+    uint8_t small[SETS];
+    const uint8_t *large;
+};
+
+static inline void move_one_up(uint8_t *at) {
+    bytes a = *(bytes *)at, b = *(bytes *)(at + 16), c = *(bytes *)(at + 32), d = *(bytes *)(at + 48);
+    *(bytes *)(at + 1) = a, *(bytes *)(at + 17) = b;
+    *(bytes *)(at + 33) = c, *(bytes *)(at + 49) = d;
+}
+
+static inline void merge_few(struct few_merges *m, const uint16_t *v, size_t n) {
+    uint8_t *low = m->room + SETS;
+    for (size_t i = 1; i < n; i++) {
+        size_t x = v[i];
+        if (x < i) {
+            m->small[i] = (uint8_t)x;
+            *--low = (uint8_t)i;
+            continue;
+        }
+        uint8_t *before = low + (x - i);
+        m->small[i] = m->small[*before];
+        move_one_up(before + 1);
+        before[1] = (uint8_t)i;
+    }
+    m->large = low;
+}
+
+#define ONE(x) (uint64_t)1 << (x)
+#define FOUR(x) ONE(x), ONE(x + 1), ONE(x + 2), ONE(x + 3)
+#define SIXTEEN(x) FOUR(x), FOUR(x + 4), FOUR(x + 8), FOUR(x + 12)
+static const uint64_t single[SETS] = {SIXTEEN(0), SIXTEEN(16), SIXTEEN(32), SIXTEEN(48)};
+
+/* A merge joins the sets of its two names. */
+static inline void count_tree(struct sets *s, const uint16_t *v, size_t n) {
+    struct few_merges m;
+    uint64_t set[SETS];
+    merge_few(&m, v, n);
+    memcpy(set, single, n * sizeof *set);
+    for (const uint8_t *at = m.large, *end = at + n - 1; at < end; at++) {
+        size_t a = m.small[*at];
+        count_set(s, set[a] |= set[*at]);
+    }
+}
+
+#define SHORT 8
+
+static void sort_short(clade *list, size_t count) {
+    for (size_t k = 1; k < count; k++) {
+        clade c = list[k];
+        size_t at = k;
+        for (; at > 0 && list[at - 1].leaves > c.leaves; at--) list[at] = list[at - 1];
+        list[at] = c;
+    }
+}
+
+/* Two sorted lists into one. Which one gives the next is no branch. */
+static void join_sorted(const clade *a, size_t a_count, const clade *b, size_t b_count, clade *to) {
+    const clade *a_end = a + a_count, *b_end = b + b_count;
+    while (a < a_end && b < b_end) {
+        size_t second = b->leaves < a->leaves;
+        *to++ = *(second ? b : a);
+        a += 1 - second, b += second;
+    }
+    memcpy(to, a, (size_t)(a_end - a) * sizeof *a);
+    memcpy(to + (a_end - a), b, (size_t)(b_end - b) * sizeof *b);
+}
+
+static inline size_t part(size_t run, size_t left) { return left < run ? left : run; }
+
+/* Runs of 8, then of 16, 32 and so on, from one list to the other and back. Returns the list that they end in. */
+static clade *sort_by_merging(clade *from, clade *to, size_t count) {
+    for (size_t at = 0; at < count; at += SHORT) sort_short(from + at, part(SHORT, count - at));
+    for (size_t run = SHORT; run < count; run *= 2) {
+        for (size_t at = 0; at < count; at += 2 * run) {
+            size_t first = part(run, count - at), second = part(run, count - at - first);
+            join_sorted(from + at, first, from + at + first, second, to + at);
+        }
+        clade *other = from;
+        from = to, to = other;
+    }
+    return from;
+}
+
+/* By one byte after another, from the lowest: eight turns, so they end where they were. */
+static clade *sort_by_bytes(clade *from, clade *to, size_t count) {
+    for (unsigned shift = 0; shift < 64; shift += 8) {
+        size_t start[257] = {0};
+        for (size_t k = 0; k < count; k++) start[(from[k].leaves >> shift & 255) + 1]++;
+        for (size_t k = 0; k < 256; k++) start[k + 1] += start[k];
+        for (size_t k = 0; k < count; k++) to[start[from[k].leaves >> shift & 255]++] = from[k];
+        clade *other = from;
+        from = to, to = other;
+    }
+    return from;
+}
+
+#define FEW 1000 /* below, bytes are slower */
+
+static size_t write_sets(const struct sets *s, clade *out) {
+    clade *list = heap(2 * s->count * sizeof *list), *at = list;
+    for (const clade *c = s->places, *end = c + FREE * s->most; c < end; c++)
+        if (c->leaves) *at++ = *c;
+    clade *sorted = (s->count < FEW ? sort_by_merging : sort_by_bytes)(list, at, s->count);
+    for (size_t k = 0; k < s->count; k++) {
+        out[k] = sorted[k];
+        out[k].size = (uint32_t)__builtin_popcountll(sorted[k].leaves);
+    }
+    free(list);
+    return s->count;
+}
+
+/* Each record is read where it stands, but for the last ones, behind which there is no whole word. */
+static void count_all(struct sets *s, const uint8_t *records, size_t n, size_t trees) {
+    uint8_t lent[RECORD + WORD];
+    uint16_t v[SETS];
+    size_t length = bare_length(n);
+    for (const uint8_t *at = records, *end = at + trees * length; at < end; at += length) {
+        int whole = at + length + WORD <= end;
+        if (!whole) memcpy(lent, at, length);
+        take_fields(whole ? at : lent, 0, n, v);
+        count_tree(s, v, n);
+    }
+}
+
+size_t plain_clade_table(const uint8_t *archive, clade *out) {
+    size_t n = (size_t)archive[0] << 3 | archive[1] >> 5;
+    size_t trees = (size_t)(archive[1] & 31) << 16 | (size_t)archive[2] << 8 | archive[3];
+    if (n < 2 || !trees) return 0;
+    if (n == 2) return out[0] = (clade){3, 2, (uint32_t)trees}, 1;
+    struct sets s;
+    make_sets(&s, FIRST_PLACES);
+    count_all(&s, archive + HEADER, n, trees);
+    size_t count = write_sets(&s, out);
+    free(s.places);
+    return count;
 }
 
 /* ---- Leaves ---- */

@@ -10,6 +10,8 @@
 #include <stddef.h>
 #include <stdint.h>
 
+#include "blathersike.h"
+
 /* The first entry above its bound, or n if there is none. The one function that expects wrong input. */
 size_t plain_check(const uint16_t *v, size_t n);
 
@@ -25,5 +27,6 @@ size_t plain_shuffle(const uint16_t *v, size_t n, uint16_t *new_labels, uint16_t
 size_t plain_relabel(const uint16_t *v, size_t n, const uint16_t *p, uint16_t *out);
 size_t plain_write_archive(const uint16_t *entries, size_t n, size_t trees, uint8_t *archive);
 size_t plain_read_tree(const uint8_t *archive, size_t tree, uint16_t *v);
+size_t plain_clade_table(const uint8_t *archive, struct blathersike_clade *out); /* n is 1 to 64; it takes memory from the heap */
 
 #endif

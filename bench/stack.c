@@ -1,5 +1,6 @@
 /*
- * stack.c: how many bytes of stack each call of the library takes at its deepest, over trees of 1,024 leaves.
+ * stack.c: how many bytes of stack each call of the library takes at its deepest, over trees of 1,024 leaves; the clade table over
+ * trees of 64, one and so many that they have thousands of different clades.
  *
  * A call runs on a stack of its own that is painted with one byte before. The lowest byte that changed says how deep the call
  * went. What a call of nothing takes is left out.
@@ -16,6 +17,9 @@
 #define TEXT 6056
 #define RECORD 1280
 #define PAINT 0xa5
+#define SET_LEAVES 64
+#define SET_RECORD 48
+#define SET_TREES 400
 
 static uint8_t stack[1 << 20] __attribute__((aligned(64)));
 static ucontext_t here, there;
@@ -39,6 +43,10 @@ static uint16_t v[LEAVES], rows[3 * LEAVES], permutation[LEAVES], numbers[3 * LE
 static uint8_t text[TEXT], record[RECORD], archive[4 + RECORD], bytes[TEXT];
 static size_t rows_length, text_length, record_length, archive_length;
 static uint64_t answer[2];
+static uint8_t one_tree[4 + SET_RECORD], many_trees[4 + SET_TREES * SET_RECORD];
+static size_t one_length, many_length;
+static uint16_t run[SET_TREES * SET_LEAVES];
+static struct blathersike_clade clades[SET_TREES * SET_LEAVES];
 
 static size_t any_entry(size_t i) { return (size_t)rand() % (2 * i - 1); }
 static size_t zero_entry(size_t i) { return 0 * i; }
@@ -64,6 +72,14 @@ static void make_tree(size_t (*entry)(size_t)) {
     record_length = written("pack");
     blathersike_write_archive(LEAVES, v, LEAVES, archive, sizeof archive, answer);
     archive_length = written("write_archive");
+    blathersike_write_archive(SET_LEAVES, v, SET_LEAVES, one_tree, sizeof one_tree, answer); /* the front of a vector is one */
+    one_length = written("write_archive");
+}
+
+static void make_run(void) {
+    for (size_t k = 0; k < SET_TREES * SET_LEAVES; k++) run[k] = (uint16_t)(k % SET_LEAVES ? any_entry(k % SET_LEAVES) : 0);
+    blathersike_write_archive(SET_LEAVES, run, SET_TREES * SET_LEAVES, many_trees, sizeof many_trees, answer);
+    many_length = written("write_archive");
 }
 
 /* ---- The calls ---- */
@@ -82,6 +98,14 @@ static void read_tree(void) { blathersike_read_tree(archive, archive_length, 0, 
 static void view(void) { blathersike_view(archive, archive_length, 0, answer); }
 static void relabel(void) { blathersike_relabel(v, LEAVES, permutation, LEAVES, numbers, 3 * LEAVES, answer); }
 
+/* With no room, exactly enough, and room for all clades of all trees: these may be different ways. */
+static void clade_table(void) {
+    blathersike_clade_table(one_tree, one_length, clades, SET_LEAVES, answer);
+    blathersike_clade_table(many_trees, many_length, clades, 0, answer);
+    blathersike_clade_table(many_trees, many_length, clades, answer[1], answer);
+    blathersike_clade_table(many_trees, many_length, clades, SET_TREES * SET_LEAVES, answer);
+}
+
 static struct {
     const char *name;
     void (*call)(void);
@@ -90,7 +114,7 @@ static struct {
     {"check", check, 0},             {"to_table", to_table, 0}, {"from_table", from_table, 0}, {"to_newick", to_newick, 0},
     {"from_newick", from_newick, 0}, {"pack", pack, 0},         {"unpack", unpack, 0},         {"shuffle", shuffle, 0},
     {"relabel", relabel, 0},         {"write_archive", write_archive, 0},
-    {"read_tree", read_tree, 0},     {"view", view, 0},
+    {"read_tree", read_tree, 0},     {"view", view, 0},         {"clade_table", clade_table, 0},
 };
 
 static void try_all(void) {
@@ -102,6 +126,8 @@ static void try_all(void) {
 
 int main(void) {
     size_t least = taken(nothing);
+    make_run();
+    srand(1); /* as if no run had been made */
     for (size_t k = 0; k < sizeof kinds / sizeof *kinds; k++) make_tree(kinds[k]), try_all();
     memset(text, '(', text_length = TEXT);
     try_all();

@@ -14,18 +14,21 @@
  *   archive  n in 11 bits, the number of trees in 21 bits, and the records one after another, each without its n and filled
  *            up to whole bytes; trees are counted from 0
  *
+ * Of an archive of up to 64 leaves a table of clades can be had: the sets of leaves below the inner nodes of its trees.
+ *
  * The library is x86-64 code with no state and no heap. Every call returns, for every input. Calls may run at the same
  * time on buffers of their own.
  *
  * What the caller owes. A list is a pointer and its number of elements. It is the caller's, is only lent for the call, and
- * no call reads or writes beyond it. Every pointer is aligned for its elements (uint16_t: 2 bytes, uint64_t: 8) and is not
- * null; of an empty list it may be anything else. `answer`, and the view's `part`, is not null, has room for two numbers,
- * and overlaps no list. No two lists that are lent to one call overlap, inputs and outputs alike.
+ * no call reads or writes beyond it. Every pointer is aligned for its elements (uint16_t: 2 bytes, uint64_t and struct
+ * blathersike_clade: 8) and is not null; of an empty list it may be anything else. `answer`, and the view's `part`, is not
+ * null, has room for two numbers, and overlaps no list. No two lists that are lent to one call overlap, inputs and outputs
+ * alike.
  *
  * Stack. In bytes, at the deepest, as measured over trees of 1,024 leaves (bench/run --stack): check 0, to_table 12,488,
  * from_table 17,800, to_newick 55,400, from_newick 55,432, pack 2,128, unpack 4,304, shuffle 28,184, relabel 22,024,
- * write_archive 2,160, read_tree 4,336, view 2,096, however many trees there are. Have 128 KiB free: nothing in the library
- * looks whether there is enough.
+ * write_archive 2,160, read_tree 4,336, view 2,096, clade_table 92,272 (over trees of 64 leaves), however many trees there
+ * are. Have 128 KiB free: nothing in the library looks whether there is enough.
  *
  * Answers. The last parameter points to two numbers that every call sets:
  *
@@ -51,6 +54,8 @@
  *   11  a permutation's value is not below n, or used before    its index
  *   12  an archive has no tree of that number                   the number
  *   13  a text's label was used before in it                    the label's first byte, where it stands again
+ *   14  the leaf count is above 64, for a clade table           the leaf count
+ *   15  more different clades than entries lent                 the entries needed
  *   21  more trees than an archive counts                       2097151
  *
  * Each call below says which refusals it gives, in the order in which they are looked for.
@@ -136,6 +141,23 @@ void blathersike_read_tree(const uint8_t *archive, size_t archive_length, size_t
  * are 0 where blathersike_read_tree refuses with 1, 2 or 12. It is no answer: whether the record is a vector's is not looked at.
  */
 void blathersike_view(const uint8_t *archive, size_t archive_length, size_t tree, uint64_t part[2]);
+
+/* An entry of a clade table, of 16 bytes: a set of two leaves or more. */
+struct blathersike_clade {
+    uint64_t leaves; /* leaf x is bit x, bit 0 the least significant */
+    uint32_t size;   /* how many leaves */
+    uint32_t count;  /* in how many of the archive's trees it is a clade */
+};
+
+/*
+ * The clade table of an archive of up to 64 leaves: an entry for each different clade of two leaves or more of its trees, rising
+ * by `leaves`. The counts add up to the number of trees times n-1: that many entries are always enough. No trees, or n = 1: done
+ * with 0. Refusals: 2 (under 4 bytes, place 4), 1, 14, 2 (not the length that n and the number of trees imply; place: that
+ * length), then tree by tree 4 (place: the entry of the tree's vector) and 10 (place: the last byte of the tree's record,
+ * counted from its first), and last 15.
+ */
+void blathersike_clade_table(const uint8_t *archive, size_t archive_length, struct blathersike_clade *out,
+                             size_t out_length, uint64_t answer[2]);
 
 #ifdef __cplusplus
 }

@@ -1,9 +1,10 @@
 /*
- * Calls all twelve functions of the C interface on samples of the rules, and one refusal of each at least, with the buffers
+ * Calls all thirteen functions of the C interface on samples of the rules, and one refusal of each at least, with the buffers
  * compared whole. Prints what differs; exit status 1 where anything does.
  */
 #include "../include/blathersike.h"
 
+#include <stddef.h>
 #include <stdio.h>
 #include <stdlib.h>
 #include <string.h>
@@ -264,6 +265,80 @@ static void views(void)
     expect("view, cut", part, 0, 0);
 }
 
+_Static_assert(sizeof(struct blathersike_clade) == 16, "an entry of a clade table has no gaps");
+_Static_assert(offsetof(struct blathersike_clade, leaves) == 0, "the leaf set is first");
+_Static_assert(offsetof(struct blathersike_clade, size) == 8, "then the size");
+_Static_assert(offsetof(struct blathersike_clade, count) == 12, "then the count");
+
+#define ENTRIES 6
+
+static const struct blathersike_clade old_entry = {7777, 77, 7};
+
+static void fill_clades(struct blathersike_clade *out)
+{
+    for (size_t k = 0; k < ENTRIES; k++)
+        out[k] = old_entry;
+}
+
+/* The trees ((0,1),2); ((0,(1,2)),3) and ((0,(1,3)),2); (0,1) as often as there can be one. */
+static void clade_tables(void)
+{
+    uint64_t a[2];
+    struct blathersike_clade out[ENTRIES], full[ENTRIES] = {{3, 2, 1}, {7, 3, 1}};
+    static const uint8_t one_tree[5] = {0x00, 0x60, 0x00, 0x01, 0x80}, most_pairs[4] = {0x00, 0x5F, 0xFF, 0xFF};
+    struct blathersike_clade two[ENTRIES] = {{6, 2, 1}, {7, 3, 1}, {10, 2, 1}, {11, 3, 1}, {15, 4, 2}};
+    full[2] = full[3] = full[4] = full[5] = two[5] = old_entry;
+    fill_clades(out);
+    blathersike_clade_table(one_tree, 5, out, ENTRIES, a);
+    expect("clade_table, one tree", a, 0, 2);
+    holds("clade_table, one tree", out, full, sizeof full);
+    fill_clades(out);
+    blathersike_clade_table(two_trees, 6, out, 5, a);
+    expect("clade_table, two trees", a, 0, 5);
+    holds("clade_table, two trees", out, two, sizeof two);
+    fill_clades(out);
+    blathersike_clade_table(most_pairs, 4, out, 1, a);
+    expect("clade_table, most trees", a, 0, 1);
+    full[0].count = 2097151;
+    full[1] = old_entry;
+    holds("clade_table, most trees", out, full, sizeof full);
+}
+
+/* Done with no entries, or refused: nothing is written. */
+static void clade_tables_empty(void)
+{
+    static const struct {
+        const char *what;
+        uint8_t archive[6];
+        size_t length, room;
+        uint64_t number, value;
+    } cases[] = {
+        {"no trees", {0x00, 0x80, 0x00, 0x00}, 4, 6, 0, 0},
+        {"one leaf", {0x00, 0x3F, 0xFF, 0xFF}, 4, 6, 0, 0},
+        {"no header", {0x00, 0x80, 0x00}, 3, 6, 2, 4},
+        {"no leaves", {0x00, 0x00, 0x00, 0x02}, 4, 6, 1, 0},
+        {"many leaves", {0xFF, 0xE0, 0x00, 0x00}, 4, 6, 1, 0},
+        {"65 leaves", {0x08, 0x20, 0x00, 0x00}, 4, 6, 14, 65},
+        {"1,024 leaves, and cut", {0x80, 0x00, 0x00, 0x01}, 4, 6, 14, 1024},
+        {"cut", {0x00, 0x80, 0x00, 0x02, 0x60}, 5, 6, 2, 6},
+        {"padding before an entry", {0x00, 0x80, 0x00, 0x02, 0x61, 0xA8}, 6, 0, 10, 0},
+        {"entry before padding", {0x00, 0x80, 0x00, 0x02, 0x60, 0xA9}, 6, 0, 4, 3},
+        {"short", {0x00, 0x60, 0x00, 0x01, 0x80}, 5, 1, 15, 2},
+        {"no room", {0x00, 0x80, 0x00, 0x02, 0x60, 0x88}, 6, 0, 15, 5},
+    };
+    struct blathersike_clade out[ENTRIES], old[ENTRIES];
+    fill_clades(old);
+    for (size_t k = 0; k < sizeof cases / sizeof *cases; k++) {
+        uint64_t a[2];
+        char what[64];
+        snprintf(what, sizeof what, "clade_table, %s", cases[k].what);
+        fill_clades(out);
+        blathersike_clade_table(cases[k].archive, cases[k].length, out, cases[k].room, a);
+        expect(what, a, cases[k].number, cases[k].value);
+        holds(what, out, old, sizeof old);
+    }
+}
+
 int main(void)
 {
     uint64_t a[2];
@@ -280,6 +355,8 @@ int main(void)
     archives_full();
     trees_read();
     views();
+    clade_tables();
+    clade_tables_empty();
     puts(failed ? "the C interface: FAILED" : "the C interface: as the rules say");
     return failed;
 }

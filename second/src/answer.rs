@@ -20,6 +20,8 @@ pub const PADDING: u8 = 10;
 pub const PERMUTATION: u8 = 11;
 pub const TREE: u8 = 12;
 pub const DOUBLE_LABEL: u8 = 13;
+pub const TABLE_LEAVES: u8 = 14;
+pub const TABLE_ROOM: u8 = 15;
 pub const TREES: u8 = 21;
 
 #[derive(Clone, Copy, Debug, PartialEq, Eq)]
@@ -58,8 +60,13 @@ pub fn refuse<T>(number: u8, place: usize) -> Result<T, Refusal> {
 
 /// Refusal 3: "an output has too few elements", place "elements needed".
 pub fn room_for<T>(elements: &[T], out: &[T]) -> Result<(), Refusal> {
+    room_or(ROOM, elements, out)
+}
+
+/// The refusal of that number where the room is short.
+fn room_or<T>(short: u8, elements: &[T], out: &[T]) -> Result<(), Refusal> {
     if out.len() < elements.len() {
-        return refuse(ROOM, elements.len());
+        return refuse(short, elements.len());
     }
     Ok(())
 }
@@ -72,11 +79,16 @@ pub fn write<T: Copy>(elements: &[T], out: &mut [T]) {
 /// The answer of a call that lends one buffer. 3 is the last refusal of every
 /// call, so it is looked for when all else is known to be right.
 pub fn give<T: Copy>(made: Result<Vec<T>, Refusal>, out: &mut [T]) -> Answer {
+    give_or(ROOM, made, out)
+}
+
+/// The same for a call whose last refusal has another number.
+pub fn give_or<T: Copy>(short: u8, made: Result<Vec<T>, Refusal>, out: &mut [T]) -> Answer {
     let elements = match made {
         Ok(elements) => elements,
         Err(refusal) => return Answer::Refused(refusal),
     };
-    if let Err(refusal) = room_for(&elements, out) {
+    if let Err(refusal) = room_or(short, &elements, out) {
         return Answer::Refused(refusal);
     }
     write(&elements, out);

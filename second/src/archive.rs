@@ -76,17 +76,28 @@ pub fn write(leaves: u64, list: &[u16]) -> Result<Vec<u8>, Refusal> {
 /// Leaf count and tree count, or the first refusal of the order "2 under 4 bytes
 /// (place 4), 1, 2 when the length is not the implied one (place: that length)".
 fn counts(archive: &[u8]) -> Result<(usize, usize), Refusal> {
+    let (n, trees) = header_counts(archive)?;
+    is_whole(archive, n, trees)?;
+    Ok((n, trees))
+}
+
+/// The same without a look at the length behind the header.
+pub fn header_counts(archive: &[u8]) -> Result<(usize, usize), Refusal> {
     if archive.len() < BYTES_OF_HEADER {
         return refuse(LENGTH, BYTES_OF_HEADER);
     }
     let header = bits(&archive[..BYTES_OF_HEADER]);
     let (leaves, trees) = header.split_at(BITS_OF_N);
-    let n = leaf_count(number(leaves) as u64)?;
-    let implied = implied_length(n, number(trees));
+    Ok((leaf_count(number(leaves) as u64)?, number(trees)))
+}
+
+/// "2 when the length is not the implied one (place: that length)"
+pub fn is_whole(archive: &[u8], n: usize, trees: usize) -> Result<(), Refusal> {
+    let implied = implied_length(n, trees);
     if archive.len() != implied {
         return refuse(LENGTH, implied);
     }
-    Ok((n, number(trees)))
+    Ok(())
 }
 
 fn number(bits: &str) -> usize {
@@ -105,17 +116,22 @@ pub fn part(archive: &[u8], tree: u64) -> Result<Part, Refusal> {
     Ok(Part { start, length })
 }
 
-/// The vector of tree r, or the refusals above, "then 4 and 10 with 01's places
-/// within the record": 10 has the record's last byte, counted from its own first.
+/// The vector of tree r, or the refusals above and then those of its record.
 pub fn read(archive: &[u8], tree: u64) -> Result<Vec<u16>, Refusal> {
     let part = part(archive, tree)?;
     let (n, _) = counts(archive)?;
-    let record = bits(part.of(archive));
-    let (fields, padding) = record.split_at(bits_of_fields(n));
+    read_record(n, part.of(archive))
+}
+
+/// The vector of a record, or "then 4 and 10 with 01's places within the record": 10
+/// has the record's last byte, counted from its own first.
+pub fn read_record(n: usize, record: &[u8]) -> Result<Vec<u16>, Refusal> {
+    let record_bits = bits(record);
+    let (fields, padding) = record_bits.split_at(bits_of_fields(n));
     let v = entries(n, fields);
     entries_within_bounds(&v)?;
     if padding.contains('1') {
-        return refuse(PADDING, part.length - 1);
+        return refuse(PADDING, record.len() - 1);
     }
     Ok(v)
 }

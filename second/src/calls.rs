@@ -7,10 +7,13 @@
 //!
 //! 02, CR 1: "a writer into a lent buffer, from n and the vectors' entries in one
 //! list [..]; a reader of tree r; and a view".
+//!
+//! 02, CR 4: "build a table in a lent list of entries".
 
-use crate::answer::{give, room_for, write, Answer, Refusal};
+use crate::answer::{give, give_or, room_for, write, Answer, Refusal, TABLE_ROOM};
 use crate::archive::{self, Part};
 use crate::building;
+use crate::clades::{self, Clade};
 use crate::tree::Tree;
 use crate::{newick, order, record, shuffle, table, vector};
 
@@ -86,4 +89,10 @@ pub fn read_tree(archive: &[u8], tree: u64, out: &mut [u16]) -> Answer {
 /// 2 or 12": then it starts at 0. It is lent no room and looks into no record.
 pub fn view(archive: &[u8], tree: u64) -> Part {
     archive::part(archive, tree).unwrap_or_default()
+}
+
+/// "and last 15, exactly when there are more different clades than entries lent
+/// (place: entries needed)": it stands where other calls have 3.
+pub fn clade_table(archive: &[u8], out: &mut [Clade]) -> Answer {
+    give_or(TABLE_ROOM, clades::table(archive), out)
 }

@@ -9,8 +9,8 @@ use std::fs;
 use std::io;
 use std::path::Path;
 
-/// The listing program gets every name that begins with `listing`; the other
-/// names are programs of their own.
+/// The names whose files are stored. The listing program gets every name that begins
+/// with `listing`; the other names are programs of their own.
 pub const NAMES: [&str; 10] = [
     "samples",
     "every",
@@ -24,6 +24,10 @@ pub const NAMES: [&str; 10] = [
     "listing-entry",
 ];
 
+/// The name of tests/clades.c. Its stream is large, so it is made anew for each run
+/// and stands nowhere.
+pub const CLADES: &str = "clades";
+
 /// What the program gets on standard input.
 pub fn input(name: &str) -> Option<Vec<u8>> {
     let input = match name {
@@ -31,6 +35,7 @@ pub fn input(name: &str) -> Option<Vec<u8>> {
         "calls" => stream::write(&cases::all()),
         "archive_cases" => stream::write(&cases::of_archives()),
         "text_cases" => stream::write(&cases::of_texts()),
+        CLADES => stream::write(&cases::of_clades()),
         "listing" => cases::listings::long(),
         "listing-sample" => samples::LISTING.to_vec(),
         "listing-cut" => cases::listings::cut(),
@@ -52,7 +57,7 @@ fn output(name: &str, input: &[u8]) -> Vec<u8> {
     match name {
         "samples" => samples::lines(),
         "every" => every::lines(),
-        "calls" | "archive_cases" | "text_cases" => run::answers(input),
+        "calls" | "archive_cases" | "text_cases" | CLADES => run::answers(input),
         _ => listed(input),
     }
 }

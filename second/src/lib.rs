@@ -7,10 +7,11 @@
 //! labels, strings of bits and strings of text, and shares nothing with the library.
 //! Where the two ways are open, the plainer one is taken, not the faster one.
 
-// The rules, a file for each part of 01 and for the archive of 02.
+// The rules, a file for each part of 01 and for the archive and the clade table of 02.
 pub mod answer;
 pub mod archive;
 pub mod building;
+pub mod clades;
 pub mod grammar;
 pub mod newick;
 pub mod order;

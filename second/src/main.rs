@@ -12,7 +12,7 @@ fn main() -> ExitCode {
     let words: Vec<&str> = words.iter().map(String::as_str).collect();
     let result = match words[..] {
         ["list"] => list(),
-        ["names"] => put(format!("{}\n", files::NAMES.join("\n")).as_bytes()),
+        ["names"] => put(format!("{}\n{}\n", files::NAMES.join("\n"), files::CLADES).as_bytes()),
         ["input", name] => put_named(files::input(name), name),
         ["expected", name] => put_named(files::expected(name), name),
         ["write", root] => files::write(Path::new(root), &files::all()),

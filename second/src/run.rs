@@ -9,8 +9,12 @@
 use crate::answer::Answer;
 use crate::archive::Part;
 use crate::calls;
+use crate::clades::Clade;
 use crate::stream::{number, read, Case, Lent};
 use std::fmt;
+
+/// An odd number, so that no two of 2^32 marks in a row have the same lowest 32 bits.
+const STEP_OF_MARKS: u64 = 0x9E37_79B9_7F4A_7C15;
 
 /// What comes back from a call: an answer, or the part that the view gives.
 #[derive(Clone, Copy, Debug, PartialEq, Eq)]
@@ -37,6 +41,19 @@ impl Lent {
 
     pub fn bytes(&self) -> Vec<u8> {
         self.words().iter().map(|word| (word % 256) as u8).collect()
+    }
+
+    /// Entry k has the marks 3k, 3k+1 and 3k+2, and mark j is seed + j times the step:
+    /// every field of every entry is another number.
+    pub fn clades(&self) -> Vec<Clade> {
+        let seed = u64::from(self.seed);
+        let mark = |j: usize| (seed + j as u64).wrapping_mul(STEP_OF_MARKS);
+        let entry = |k: usize| Clade {
+            leaves: mark(3 * k),
+            size: mark(3 * k + 1) as u32,
+            count: mark(3 * k + 2) as u32,
+        };
+        (0..self.room).map(entry).collect()
     }
 }
 
@@ -80,6 +97,11 @@ pub fn run(case: &Case) -> (Given, Vec<u32>) {
             let part = calls::view(archive, *tree);
             (Given::Part(part), vec![hash(part.of(archive))])
         }
+        Case::CladeTable { archive, out } => {
+            let mut table = out.clades();
+            let answer = calls::clade_table(archive, &mut table);
+            (Given::Answer(answer), vec![hash_clades(&table)])
+        }
     }
 }
 
@@ -97,6 +119,17 @@ fn in_bytes(lent: &Lent, call: impl FnOnce(&mut [u8]) -> Answer) -> (Given, Vec<
 
 fn hash_words(words: &[u16]) -> u32 {
     let bytes: Vec<u8> = words.iter().flat_map(|word| word.to_le_bytes()).collect();
+    hash(&bytes)
+}
+
+/// Over the whole list, an entry as its 16 bytes: leaves, size, count.
+pub fn hash_clades(table: &[Clade]) -> u32 {
+    let mut bytes = Vec::new();
+    for clade in table {
+        bytes.extend(clade.leaves.to_le_bytes());
+        bytes.extend(clade.size.to_le_bytes());
+        bytes.extend(clade.count.to_le_bytes());
+    }
     hash(&bytes)
 }
 

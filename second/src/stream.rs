@@ -1,11 +1,12 @@
-//! The streams of cases that the programs `calls`, `archive_cases` and `text_cases`
-//! read. The format is told in README.md.
+//! The streams of cases that the programs `calls`, `archive_cases`, `text_cases` and
+//! `clades` read. The format is told in README.md.
 //!
-//! 01: the nine calls, to which 02 adds the archive's three; and "vector and table
-//! numbers are 16 bits wide"; so a list is a length and its elements, of two bytes
-//! or one. A leaf count and a tree's number may be any number of 64 bits.
+//! 01: the nine calls, to which 02 adds the archive's three and the clade table; and
+//! "vector and table numbers are 16 bits wide"; so a list is a length and its elements,
+//! of two bytes or one. A leaf count and a tree's number may be any number of 64 bits.
 
-/// No list of a stream has more elements, and no buffer.
+/// No list of a stream has more elements, and no buffer; `clades`, which is read by a
+/// program in C, has no such end.
 pub const LONGEST: usize = 8192;
 
 /// But a text of `text_cases` may have so many: more than are read.
@@ -33,6 +34,7 @@ pub enum Case {
     WriteArchive { leaves: u64, entries: Vec<u16>, out: Lent },
     ReadTree { archive: Vec<u8>, tree: u64, out: Lent },
     View { archive: Vec<u8>, tree: u64 },
+    CladeTable { archive: Vec<u8>, out: Lent },
 }
 
 /// The call's number, by the order of the calls in 01 and then in 02.
@@ -50,6 +52,7 @@ pub fn number(case: &Case) -> u8 {
         Case::WriteArchive { .. } => 10,
         Case::ReadTree { .. } => 11,
         Case::View { .. } => 12,
+        Case::CladeTable { .. } => 13,
     }
 }
 
@@ -91,6 +94,7 @@ impl Writer {
                 self.call(number(case)).text(archive).wide(*tree).lent(out)
             }
             Case::View { archive, tree } => self.call(number(case)).text(archive).wide(*tree),
+            Case::CladeTable { archive, out } => self.call(number(case)).text(archive).lent(out),
         };
     }
 
@@ -165,6 +169,7 @@ impl Reader<'_> {
             }
             11 => Case::ReadTree { archive: self.text(), tree: self.wide(), out: self.lent() },
             12 => Case::View { archive: self.text(), tree: self.wide() },
+            13 => Case::CladeTable { archive: self.text(), out: self.lent() },
             other => panic!("there is no call {other}"),
         };
         Some(case)

@@ -75,6 +75,7 @@ fn verify_finds_a_difference_and_a_missing_file() {
 fn only_the_names_have_inputs_and_outputs() {
     assert_eq!(input("samples"), Some(Vec::new()));
     assert_eq!(expected("listing-entry").unwrap().lines().count(), 4);
+    assert!(!files::NAMES.contains(&files::CLADES), "its stream is not stored");
     assert_eq!(input("other"), None);
     assert_eq!(expected("other"), None);
 }

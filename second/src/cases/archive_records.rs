@@ -71,7 +71,7 @@ fn entry_above_and_padding_bit(chance: &mut Chance) -> Asked {
     draft.asked(tree)
 }
 
-fn damage_entry(draft: &mut Draft, chance: &mut Chance, tree: usize) {
+pub fn damage_entry(draft: &mut Draft, chance: &mut Chance, tree: usize) {
     let i = some_entry(chance, draft.leaves);
     if chance.one_in(2) {
         draft.set_entry(tree, i, bound(i) + 1);
@@ -80,7 +80,7 @@ fn damage_entry(draft: &mut Draft, chance: &mut Chance, tree: usize) {
     }
 }
 
-fn damage_padding(draft: &mut Draft, chance: &mut Chance, tree: usize) {
+pub fn damage_padding(draft: &mut Draft, chance: &mut Chance, tree: usize) {
     let places = padding(draft.leaves);
     draft.set_bit(tree, places.start + chance.below(places.len()));
 }

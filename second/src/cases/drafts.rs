@@ -24,8 +24,14 @@ pub struct Draft {
 impl Draft {
     /// A right archive of so many trees of n leaves.
     pub fn right(chance: &mut Chance, n: usize, trees: usize) -> Draft {
-        let record = |_| padded(fields(&vectors::of_size(chance, n)));
-        Draft { leaves: n, trees, records: (0..trees).map(record).collect() }
+        let run: Vec<Vec<u16>> = (0..trees).map(|_| vectors::of_size(chance, n)).collect();
+        Draft::of_run(n, &run)
+    }
+
+    /// The archive of these vectors, which have n entries each.
+    pub fn of_run(n: usize, run: &[Vec<u16>]) -> Draft {
+        let records = run.iter().map(|v| padded(fields(v))).collect();
+        Draft { leaves: n, trees: run.len(), records }
     }
 
     /// A right archive of a few trees, at least so many, of n leaves.

@@ -5,7 +5,8 @@
 use second::answer::{Answer, Refusal};
 use second::archive::Part;
 use second::calls;
-use second::run::hash;
+use second::clades::Clade;
+use second::run::{hash, hash_clades};
 use second::stream::{Case, Lent};
 
 const AMPLE: usize = 7000;
@@ -66,6 +67,10 @@ pub fn tree_of(archive: &[u8], tree: u64) -> Vec<u16> {
     made(|out| calls::read_tree(archive, tree, out))
 }
 
+pub fn clades_of(archive: &[u8]) -> Vec<Clade> {
+    made(|out| calls::clade_table(archive, out))
+}
+
 /// The view of a tree as start and length.
 pub fn part_of(archive: &[u8], tree: u64) -> (usize, usize) {
     let Part { start, length } = calls::view(archive, tree);
@@ -97,6 +102,10 @@ pub fn answer_of_tree(archive: &[u8], tree: u64) -> Answer {
     calls::read_tree(archive, tree, &mut [0; AMPLE])
 }
 
+pub fn answer_of_clades(archive: &[u8]) -> Answer {
+    calls::clade_table(archive, &mut [Clade::default(); AMPLE])
+}
+
 /// The lengths of inputs and rooms of a case.
 pub fn lengths(case: &Case) -> Vec<usize> {
     match case {
@@ -112,6 +121,7 @@ pub fn lengths(case: &Case) -> Vec<usize> {
         Case::WriteArchive { entries, out, .. } => vec![entries.len(), out.room],
         Case::ReadTree { archive, out, .. } => vec![archive.len(), out.room],
         Case::View { archive, .. } => vec![archive.len()],
+        Case::CladeTable { archive, out } => vec![archive.len(), out.room],
     }
 }
 
@@ -127,6 +137,7 @@ pub fn hashes_before(case: &Case) -> Vec<u32> {
             vec![hash(&out.bytes())]
         }
         Case::Shuffle { new_out, vector_out, .. } => vec![words(new_out), words(vector_out)],
+        Case::CladeTable { out, .. } => vec![hash_clades(&out.clades())],
         Case::ToTable { out, .. }
         | Case::FromTable { out, .. }
         | Case::FromNewick { out, .. }
