@@ -1,4 +1,6 @@
 // The shared answer, as the public calls make it: a refusal, and the end of a call that has its numbers in an array.
+#![tactic(auto)]
+
 ghost use Rattle.std.specs.Prelude.{◌≡◌, ◌≤◌, length, take};
 ghost use Rattle.rules.specs.Answer.{made, refused, number_of, reads};
 ghost use Rattle.rules.specs.Promise.{list, makes, Keeps};

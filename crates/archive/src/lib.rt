@@ -1,4 +1,6 @@
 // What an archive says of itself before a record is read: its tree count, the length that this implies, and which part record r is.
+#![tactic(auto)]
+
 ghost use Rattle.std.specs.Prelude.{◌≡◌, ◌≤◌, ◌<◌, length};
 ghost use Rattle.rules.specs.Archive.{trees_in, bare_length, implied_length};
 ghost use Rattle.archive.specs.Finds.{IsPart, Finds};

@@ -1,4 +1,6 @@
 // The public calls about the archive of one run.
+#![tactic(auto)]
+
 ghost use Rattle.rules.specs.Promise.{Keeps};
 ghost use Rattle.rules.specs.CallWriteArchive.{write_archive_call};
 ghost use Rattle.rules.specs.CallReadTree.{read_tree_call};

@@ -1,5 +1,7 @@
 // The cases of the calls about an archive, one at a time, as `calls` runs those of the others. The run stops at the end of the stream, and
 // where a part of a case is not whole.
+#![tactic(auto)]
+
 mod made;
 
 fn main() {

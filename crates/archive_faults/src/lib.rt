@@ -1,4 +1,6 @@
 // The check of vectors one after another in a list: the first entry above its bound.
+#![tactic(auto)]
+
 ghost use Rattle.std.specs.Prelude.{◌≡◌, ◌*◌, ◌/◌, ◌≤◌, length};
 ghost use Rattle.archive_faults.specs.FaultIn.{first_fault_in};
 

@@ -1,1 +1,2 @@
 // The laws of the archive. No code: specs/ has them.
+#![tactic(auto)]

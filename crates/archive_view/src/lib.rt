@@ -1,4 +1,6 @@
 // The part of an archive that is a tree's record, by its place and by its bytes.
+#![tactic(auto)]
+
 ghost use Rattle.std.specs.Prelude.{◌≡◌};
 ghost use Rattle.rules.specs.CallView.{view};
 ghost use Rattle.archive_view.specs.Shows.{Shows};

@@ -1,4 +1,6 @@
 // The archive of vectors: its header, and their records one after another.
+#![tactic(auto)]
+
 ghost use Rattle.std.specs.Prelude.{◌≡◌, ◌++◌, ◌/◌, ◌<◌, ◌≤◌, length, drop};
 ghost use Rattle.rules.specs.Archive.{header, implied_length, archive_of};
 ghost use Rattle.rules.specs.CallWriteArchive.{cut};

@@ -1,1 +1,3 @@
+#![tactic(auto)]
+
 // Small laws that many crates need: no code here.

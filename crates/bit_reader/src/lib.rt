@@ -1,4 +1,6 @@
 // A reading position over bytes that it was lent. Each read takes the position, and gives it back moved on.
+#![tactic(auto)]
+
 ghost use Rattle.std.specs.Prelude.{◌≡◌, ◌*◌, length};
 ghost use Rattle.bits.specs.Fields.{field_read, four_read, FieldInside, FourInside};
 ghost use Rattle.bit_reader.specs.Moving.{at_bit, moved_on};

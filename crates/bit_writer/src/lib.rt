@@ -1,4 +1,6 @@
 // Bits put into bytes, most significant first, by a word of eight bytes.
+#![tactic(auto)]
+
 ghost use Rattle.std.specs.Prelude.{◌≡◌, ◌+◌, ◌≤◌, ◌<◌, ◌^◌, length};
 ghost use Rattle.bit_writer.specs.Pending.{Room, Put, word_stored};
 

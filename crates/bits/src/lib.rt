@@ -1,4 +1,6 @@
 // Fields of any width, most significant bit first, read from bytes by a word of four or eight bytes.
+#![tactic(auto)]
+
 ghost use Rattle.std.specs.Prelude.{◌≡◌, ◌+◌, ◌*◌, ◌≤◌, length};
 ghost use Rattle.record_laws.specs.Window.{value_at};
 ghost use Rattle.bits.specs.Fields.{field_read, four_read, FieldInside, FourInside};

@@ -1,1 +1,3 @@
+#![tactic(auto)]
+
 // The laws of the building rule: definitions and theorems only, no code.

@@ -1,5 +1,7 @@
 // The lines of the programs `samples` and `every`: one a call, `CALL INPUTS : ANSWER : WRITTEN`, in the notation of the second
 // program. A call that makes a table, a text or a record is lent its buffer, so that what it wrote can be read back.
+#![tactic(auto)]
+
 ghost use Rattle.std.specs.Prelude.{◌≤◌};
 ghost use Rattle.io.specs.Counts.{IsPrefixLen};
 

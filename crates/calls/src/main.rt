@@ -1,6 +1,8 @@
 // The cases of a stream, one at a time: each is read, its call is made with the buffers that it lends, and its line is written.
 // The run stops at the end of the stream, and where a part of a case is not whole: the input ends in it, or it has more than
 // 8,192 elements.
+#![tactic(auto)]
+
 mod made;
 
 fn main() {

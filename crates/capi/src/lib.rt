@@ -1,4 +1,6 @@
 // The C interface: one exported function a call. include/blathersike.h documents each.
+#![tactic(auto)]
+
 ghost use Rattle.std.specs.Prelude.{[], ◌∷◌, ◌≡◌};
 ghost use Rattle.rules.specs.Answer.{reads};
 ghost use Rattle.rules.specs.CallCheck.{check_call};

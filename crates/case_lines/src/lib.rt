@@ -1,5 +1,7 @@
 // The line of a case, for the programs that run a stream of cases: its index, the call's number, the answer, and a hash of each buffer,
 // 32-bit FNV-1a.
+#![tactic(auto)]
+
 use rules::Answer;
 
 // The index and the call's number, with which every line begins.

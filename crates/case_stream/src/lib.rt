@@ -1,4 +1,6 @@
 // The parts of a case, read from standard input into lent buffers. Numbers stand least significant byte first.
+#![tactic(auto)]
+
 ghost use Rattle.std.specs.Prelude.{◌*◌, ◌<◌, ◌≤◌, length};
 ghost use Rattle.io.specs.Counts.{IsPrefixLen};
 

@@ -1,4 +1,5 @@
 // The vector of a tree whose rows are known, by their children.
+#![tactic(auto)]
 
 ghost use Rattle.std.specs.Prelude.{◌≡◌, List, ◌++◌, ◌-◌, ◌≤◌, length, drop};
 ghost use Rattle.rules.specs.Order.{vector_of};

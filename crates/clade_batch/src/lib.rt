@@ -1,4 +1,6 @@
 // A batch of clades in an array of words: leaf set and count in turn, in rising order of the leaf sets, and in the last word how many.
+#![tactic(auto)]
+
 ghost use Rattle.std.specs.Prelude.{◌≡◌, [], ◌∷◌, ◌<◌, ◌≤◌, cond, ltb, length, take, get_or};
 ghost use Rattle.clade_passes.specs.Collected.{new_entry, add_entry, collected};
 ghost use Rattle.clade_batch.specs.Held.{most, held_one, held_in, Batch};

@@ -1,4 +1,6 @@
 // The public call about the clade table of an archive.
+#![tactic(auto)]
+
 ghost use Rattle.std.specs.Prelude.{◌≡◌, length};
 ghost use Rattle.rules.specs.Answer.{reads};
 ghost use Rattle.rules.specs.CallCladeTable.{clade_table_call};

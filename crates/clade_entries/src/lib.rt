@@ -1,4 +1,6 @@
 // The batches of an archive's clade table, one after another, and how many entries it has.
+#![tactic(auto)]
+
 ghost use Rattle.std.specs.Prelude.{◌≡◌, length, get_or};
 ghost use Rattle.clade_passes.specs.Batches.{batch_at};
 ghost use Rattle.clade_batch.specs.Held.{most, held_in};

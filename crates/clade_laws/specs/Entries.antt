@@ -8,7 +8,7 @@ use Rattle.rules.specs.Building.{member}
 use Rattle.rules.specs.Tree.{Tree, size, Distinct}
 use Rattle.rules.specs.declared.Clade.{Clade as Entry}
 use Rattle.rules.specs.CladeTable.{leaf_set, inner, occurs, entry_of, entries, all_inner, rising, clade_table}
-use Rattle.basics.specs.Bools.{both}
+use Rattle.basics.specs.Bools.{both, or_left}
 use Rattle.basics.specs.Cases.{by_lt, by_eq, by_test}
 use Rattle.clade_laws.specs.Inner.{member_head, member_tail, member_cases, append_left, append_right, append_cases, PairIn, inner_node}
 use Rattle.clade_laws.specs.Rising.{From, Rises, from_ge, from_rises, from_unique, rising_from, rising_member}
@@ -184,7 +184,7 @@ count_absent (x ∷ es) m e = go (eqb x.leaves m) refl (count_absent es m)
     no p = true≢false (sym p ∙ e)
 
     go : (b : Bool) → eqb x.leaves m ≡ b → (member m (leaves_of es) ≡ false → count_in es m ≡ 0) → cond b x.count (count_in es m) ≡ 0
-    go true q ih = absurd (no (rw (sym (eqb-true x.leaves m q)) (member_head x.leaves (leaves_of es))))
+    go true q ih = absurd (no (or_left (eqb m x.leaves) (member m (leaves_of es)) (eq-eqb m x.leaves (sym (eqb-true x.leaves m q)))))
     go false q ih = ih (by_test (member m (leaves_of es)) (λ p. absurd (no (member_tail m x.leaves (leaves_of es) p))) (λ p. p))
 
 count_present : (ts : List Tree) (es : List Entry) → Each (λ e. e.count ≡ occurs e.leaves ts) es → (m : ℕ) → member m (leaves_of es) ≡ true → count_in es m ≡ occurs m ts

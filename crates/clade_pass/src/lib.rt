@@ -1,4 +1,6 @@
 // One pass over an archive: the least clades above a bound, with the number of trees that have them.
+#![tactic(auto)]
+
 ghost use Rattle.std.specs.Prelude.{◌≡◌, ◌<◌, ◌≤◌, length, replicate, [], ◌∷◌};
 ghost use Rattle.rules.specs.Archive.{bare_length};
 ghost use Rattle.rules.specs.CladeTable.{clade_table, trees_of};

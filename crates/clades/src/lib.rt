@@ -1,1 +1,3 @@
+#![tactic(auto)]
+
 // Trees, their leaves, clades and forms: no code here; specs/ has the definitions and their laws.

@@ -1,4 +1,6 @@
 // A number in decimal, written to lent bytes. It knows nothing of trees: what stands above the public calls may use it too.
+#![tactic(auto)]
+
 ghost use Rattle.std.specs.Prelude.{◌+◌, ◌≤◌, ◌<◌, ◌≡◌, length};
 ghost use Rattle.std.proofs.lemmas.List.Edits.{sets};
 ghost use Rattle.rules.specs.Newick.{digits};

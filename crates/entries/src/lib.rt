@@ -1,4 +1,5 @@
 // The entries of a vector from the chains of its tree, which are walked by falling key.
+#![tactic(auto)]
 
 ghost use Rattle.std.specs.Prelude.{◌+◌};
 ghost use Rattle.read_tables.specs.Chains.{falling};

@@ -1,4 +1,6 @@
 // Entries read from their fields by a reading position: one by one, or four by four.
+#![tactic(auto)]
+
 ghost use Rattle.std.specs.Prelude.{◌<◌, length};
 ghost use Rattle.runs.specs.Runs.{Fours, Run};
 ghost use Rattle.entry_reader.specs.Reading.{Left, Read};

@@ -1,4 +1,6 @@
 // The fields of entries, put behind the bits that are held: one by one, or four by four.
+#![tactic(auto)]
+
 ghost use Rattle.std.specs.Prelude.{◌<◌, length};
 ghost use Rattle.runs.specs.Runs.{Fours, Run};
 ghost use Rattle.entry_writer.specs.Entries.{PutEntries, Due};

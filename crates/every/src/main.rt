@@ -1,4 +1,6 @@
 // Every vector for n from 1 to 6, the vectors of one n in the order of their entries from the front.
+#![tactic(auto)]
+
 ghost use Rattle.std.specs.Prelude.{◌≤◌, ◌≡◌, length};
 
 fn wide(x: u16) -> usize

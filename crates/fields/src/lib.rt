@@ -1,4 +1,6 @@
 // The fields of entries and the padding behind them, read by one reading position from the first bit to the last.
+#![tactic(auto)]
+
 ghost use Rattle.std.specs.Prelude.{◌≡◌, ◌+◌, length, take, get_or};
 ghost use Rattle.rules.specs.Archive.{field_bits};
 ghost use Rattle.record_laws.specs.Window.{value_at};

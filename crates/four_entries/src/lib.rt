@@ -1,4 +1,6 @@
 // Four entries of one width as one number.
+#![tactic(auto)]
+
 ghost use Rattle.std.specs.Prelude.{◌≡◌, ℕ, ◌+◌, ◌*◌, ◌≤◌, ◌<◌, ◌^◌, length, get_or};
 ghost use Rattle.four_entries.specs.Four.{four_of};
 

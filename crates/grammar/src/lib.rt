@@ -1,1 +1,2 @@
 // Laws of the Newick text. No code.
+#![tactic(auto)]

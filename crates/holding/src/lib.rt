@@ -1,4 +1,6 @@
 // The bytes of a record as the listing program holds them: how many there are to be, decided by the first two.
+#![tactic(auto)]
+
 ghost use Rattle.std.specs.Prelude.{◌≡◌};
 ghost use Rattle.holding.specs.Wanted.{bytes_wanted};
 

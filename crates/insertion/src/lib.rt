@@ -1,4 +1,5 @@
 // A name goes into a list that grows at both ends: the shorter side moves.
+#![tactic(auto)]
 
 ghost use Rattle.std.specs.Prelude.{◌≡◌, ◌+◌, ◌<◌, ◌≤◌, length, take, drop};
 ghost use Rattle.insertion.specs.Moved.{ins, moved};

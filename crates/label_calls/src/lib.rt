@@ -1,4 +1,6 @@
 // The public calls that give the leaves other labels.
+#![tactic(auto)]
+
 ghost use Rattle.rules.specs.Promise.{Keeps};
 ghost use Rattle.rules.specs.CallShuffle.{shuffle_call};
 ghost use Rattle.rules.specs.CallRelabel.{relabel_call};

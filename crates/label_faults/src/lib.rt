@@ -1,4 +1,6 @@
 // Which label of a text is at fault, if one is, and how: the marks of the labels that were read, and the second look at the bytes.
+#![tactic(auto)]
+
 ghost use Rattle.std.specs.Prelude.{◌≡◌, Bool, ◌≤◌, ◌<◌, [], length};
 ghost use Rattle.std.proofs.Math.Option.{none, some};
 ghost use Rattle.rules.specs.Names.{first_fault};

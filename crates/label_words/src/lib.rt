@@ -2,6 +2,8 @@
 //
 // The word of a leaf is the signs of its label, the first one lowest; where there are fewer than four, the highest byte says how many.
 // Most words are made from others: a label that continues another by one digit has its signs and one more.
+#![tactic(auto)]
+
 ghost use Rattle.std.specs.Prelude.{◌+◌, ◌*◌, ◌≤◌, ◌≡◌, length};
 ghost use Rattle.label_words.specs.Longer.{Longer};
 ghost use Rattle.label_words.specs.Leaves.{word_places, LeafWords, Tens, TenMore};

@@ -1,1 +1,2 @@
 // The laws of the rules: no code here; specs/ has the theorems.
+#![tactic(auto)]

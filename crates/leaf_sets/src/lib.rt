@@ -1,4 +1,6 @@
 // The leaf sets of the merges of a vector, leaf x as bit x: those of the clades of two leaves or more.
+#![tactic(auto)]
+
 ghost use Rattle.std.specs.Prelude.{◌≡◌, ◌++◌, ◌-◌, ◌<◌, ◌≤◌, length, take, drop};
 ghost use Rattle.rules.specs.Vector.{Vector};
 ghost use Rattle.merges.specs.Room.{list_room};

@@ -1,4 +1,6 @@
 // What a record says of itself before its entries are read: its leaf count, and from that its length, in bits before padding and in bytes.
+#![tactic(auto)]
+
 ghost use Rattle.std.specs.Prelude.{◌≡◌, ◌≤◌, length};
 ghost use Rattle.rules.specs.Record.{total, record_length, leaf_count};
 ghost use Rattle.rules.specs.Archive.{field_bits};

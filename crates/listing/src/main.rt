@@ -1,6 +1,8 @@
 // The listing program: packed records back to back on standard input, one at a time; a line for each on standard output.
 // The first refusal ends the run with the line `refused`, number, place. A read that fails counts as the end of the input, and a
 // write that fails ends the run.
+#![tactic(auto)]
+
 ghost use Rattle.std.specs.Prelude.{◌≡◌, ◌≤◌, length, take};
 ghost use Rattle.io.specs.Counts.{IsPrefixLen};
 ghost use Rattle.rules.specs.Listing.{most_records};

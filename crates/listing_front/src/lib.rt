@@ -1,4 +1,6 @@
 // The front of a line of the listing: n, a space, the vector with commas, a space. The text follows it.
+#![tactic(auto)]
+
 ghost use Rattle.std.specs.Prelude.{◌+◌, ◌*◌, ◌≤◌, length};
 ghost use Rattle.rules.specs.Vector.{Vector};
 ghost use Rattle.rules.specs.Listing.{commaed};

@@ -1,4 +1,6 @@
 // The line of a vector in the listing: its front, the text, a line end.
+#![tactic(auto)]
+
 ghost use Rattle.std.specs.Prelude.{◌+◌, ◌≤◌, length};
 ghost use Rattle.rules.specs.Vector.{Vector};
 ghost use Rattle.rules.specs.Tree.{tree_of};

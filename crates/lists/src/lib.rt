@@ -1,4 +1,6 @@
 // Lent lists filled from their front: by the elements of another, by the leaves.
+#![tactic(auto)]
+
 ghost use Rattle.std.specs.Prelude.{◌≡◌, ◌++◌, ℕ, ◌<◌, ◌≤◌, length, take, drop, get_or};
 
 /// The first n elements of src become those of out; the others stay.

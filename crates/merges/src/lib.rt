@@ -1,4 +1,5 @@
 // The merges of a vector: their larger names in a list that grows at both ends, their smaller names by larger name.
+#![tactic(auto)]
 
 ghost use Rattle.std.specs.Prelude.{◌≡◌, map, ◌+◌, ◌-◌, ◌≤◌, length, take, drop};
 ghost use Rattle.rules.specs.Vector.{Vector};

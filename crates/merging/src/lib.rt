@@ -1,1 +1,3 @@
+#![tactic(auto)]
+
 // Lists of merges: no code here; specs/ has the definitions and their laws.

@@ -1,4 +1,6 @@
 // The case of a text, which two programs have: it is read, its call is made with the very buffers that it lends, and its line is written.
+#![tactic(auto)]
+
 use case_lines::{answer, hash_numbers};
 use rules::Answer;
 

@@ -1,4 +1,6 @@
 // The words of the nodes of a vector's tree: those of the leaves, and behind them, row by row, those of the pairs.
+#![tactic(auto)]
+
 ghost use Rattle.std.specs.Prelude.{◌≡◌, ◌+◌, ◌*◌, length};
 ghost use Rattle.rules.specs.Vector.{Vector};
 ghost use Rattle.numbering.specs.Numbered.{BeforeRows, held_rows};

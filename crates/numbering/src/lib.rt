@@ -1,4 +1,5 @@
 // The children of the rows of merges, which are numbered in their order.
+#![tactic(auto)]
 
 ghost use Rattle.std.specs.Prelude.{◌≡◌, ◌++◌, map, ◌-◌, ◌≤◌, length, drop};
 ghost use Rattle.written_tables.specs.Rows.{first, second};

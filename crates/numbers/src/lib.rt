@@ -1,4 +1,6 @@
 // Numbers: a wider type for one, the lesser and the greater of two.
+#![tactic(auto)]
+
 ghost use Rattle.std.specs.Prelude.{◌≡◌, min, max};
 
 /// The same number, as an index.

@@ -1,4 +1,5 @@
 // The vector of a tree from its chains: the entries by falling key.
+#![tactic(auto)]
 
 ghost use Rattle.std.specs.Prelude.{◌≡◌, ◌++◌, ◌≤◌, length, drop};
 ghost use Rattle.rules.specs.Order.{vector_of};

@@ -1,4 +1,6 @@
 // The children of the pairs that a text's readers recorded, by their numbers: a leaf as it stands, a pair behind the leaves.
+#![tactic(auto)]
+
 ghost use Rattle.std.specs.Prelude.{◌≡◌, ◌-◌, ◌≤◌, ◌<◌, ◌++◌, map, length, take, drop};
 ghost use Rattle.grammar.specs.Closed.{child_number};
 ghost use Rattle.text_laws.specs.Numbered.{first_number, second_number};

@@ -1,4 +1,6 @@
 // The first fault of a permutation: a value that is not below n, or was used before.
+#![tactic(auto)]
+
 ghost use Rattle.std.specs.Prelude.{◌≡◌, [], ◌≤◌, length, replicate};
 ghost use Rattle.rules.specs.Shuffle.{permutation_fault};
 ghost use Rattle.permutation.specs.Marks.{place_of, Mark};

@@ -1,4 +1,6 @@
 // Lists, bytes and answers on standard output, in the notation of the second program. A write that fails is passed over.
+#![tactic(auto)]
+
 use rules::Answer;
 
 // The digits of a number.

@@ -1,4 +1,6 @@
 // The queue of Queue Shuffle, over the rows of a tree: a leaf gets its new label, an inner node waits with its label.
+#![tactic(auto)]
+
 ghost use Rattle.std.specs.Prelude.{◌≡◌, [], ◌++◌, ◌+◌, ◌-◌, ◌<◌, ◌≤◌, length, drop};
 ghost use Rattle.rules.specs.Shuffle.{new_of};
 ghost use Rattle.shuffle_laws.specs.Handed.{outcome};

@@ -2,6 +2,7 @@
 //
 // The names stand in sixteen blocks of 64. blocks[w] is how many members are below block w, names[x] how many of x's block are below x.
 // A new member i adds 1 to each later block and to each later name of its block.
+#![tactic(auto)]
 
 ghost use Rattle.std.specs.Prelude.{◌≡◌, Bool, false, ℕ, ◌+◌, ◌<◌};
 ghost use Rattle.read_tables.specs.Count.{count};

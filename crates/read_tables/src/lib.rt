@@ -1,1 +1,2 @@
 // Tables that are read: no code here; specs/ has the definitions and their laws.
+#![tactic(auto)]

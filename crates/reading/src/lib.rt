@@ -1,4 +1,5 @@
 // The rows of a table, checked and added to the chains one by one.
+#![tactic(auto)]
 
 ghost use Rattle.reading.specs.Reading.{Reads};
 ghost use Rattle.reading.specs.Told.{HasRead};

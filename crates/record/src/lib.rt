@@ -1,4 +1,6 @@
 // Entries that are read from the fields in bytes, and the padding behind them.
+#![tactic(auto)]
+
 ghost use Rattle.std.specs.Prelude.{◌≡◌, ◌+◌, ◌≤◌, length, take, drop};
 ghost use Rattle.rules.specs.Record.{bits_of, any_set};
 ghost use Rattle.rules.specs.Archive.{field_bits};

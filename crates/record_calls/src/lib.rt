@@ -1,4 +1,6 @@
 // The public calls between a vector and a packed record.
+#![tactic(auto)]
+
 ghost use Rattle.rules.specs.Promise.{Keeps};
 ghost use Rattle.rules.specs.CallPack.{pack_call};
 ghost use Rattle.rules.specs.CallUnpack.{unpack_call};

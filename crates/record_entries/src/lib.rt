@@ -1,4 +1,6 @@
 // The entries of a record, one with its n or one of an archive, read and checked.
+#![tactic(auto)]
+
 ghost use Rattle.std.specs.Prelude.{◌≡◌, ◌≤◌, length, take};
 ghost use Rattle.vector.specs.Fault.{first_fault};
 ghost use Rattle.record.specs.Filled.{Filled};

@@ -1,1 +1,3 @@
+#![tactic(auto)]
+
 // What follows from the rules of the packed record. No code.

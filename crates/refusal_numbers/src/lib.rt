@@ -1,4 +1,6 @@
 // The number of a refusal's kind, for all that hand an answer on as numbers.
+#![tactic(auto)]
+
 ghost use Rattle.std.specs.Prelude.{◌≡◌};
 ghost use Rattle.rules.specs.Answer.{number_of};
 

@@ -1,4 +1,6 @@
 // Leaves renamed: in a row, in all rows of a vector, and the vector of the tree that these make.
+#![tactic(auto)]
+
 ghost use Rattle.std.specs.Prelude.{◌≡◌, [], ◌++◌, ◌≤◌, length, drop};
 ghost use Rattle.std.proofs.Math.Option.{none};
 ghost use Rattle.rules.specs.Vector.{Vector};

@@ -1,4 +1,5 @@
 // The checks of a table's row: its parent, its children, and whether a row before has named one of them.
+#![tactic(auto)]
 
 ghost use Rattle.std.specs.Prelude.{◌≡◌, ◌<◌, ltb, length, get_or, set};
 ghost use Rattle.row_checks.specs.Verdict.{placed};

@@ -1,5 +1,6 @@
 // What the public calls hand back, by value: the answer, of which specs/Answer.antt gives each case the paper's number and values, and the
 // part of a lent list that is viewed. And the entries of the clade table, which go into a lent list.
+#![tactic(auto)]
 
 /// Why an input is refused: one case for each number of the refusal table, in its order.
 #[derive(Drop)]

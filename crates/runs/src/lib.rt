@@ -1,4 +1,6 @@
 // The width of an entry's field, and where entries of one width end.
+#![tactic(auto)]
+
 ghost use Rattle.std.specs.Prelude.{◌≡◌, ◌+◌, ◌%◌, ◌≤◌, ◌<◌};
 ghost use Rattle.rules.specs.Record.{width};
 ghost use Rattle.runs.specs.Runs.{Fours, Run};

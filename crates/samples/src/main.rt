@@ -1,4 +1,5 @@
 // The samples of the rules and their refused inputs, a line for each call.
+#![tactic(auto)]
 
 fn sample(v: &[u16]) {
     call_lines::check(v);

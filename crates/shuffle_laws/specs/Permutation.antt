@@ -56,7 +56,7 @@ free_room n x used = go (ltb x n) (member x used)
     go false b h = absurd (omega arith)
 
 fault_room : (n i : ℕ) (used p : List ℕ) → permutation_fault n i used p ≡ none → (y : ℕ) → occurs y p ≤ room n used y
-unfolding occurs
+unfolding occurs hit
 fault_room n i used [] e y = omega arith
 fault_room n i used (x ∷ p) e y =
     let first = sym (value_step n i used x p) ∙ e in
@@ -65,7 +65,9 @@ fault_room n i used (x ∷ p) e y =
     (λ q. absurd (none-ne-some i (sym (rw (below, q) at first))))
     (λ q. let rest = fault_room n (i + 1) (x ∷ used) p (rw (below, q) at first) in
     by_eq y x
-    (λ s. rw s (omega (arith, hit_le x x, rest x, room_used n x used, room_free n x used below q)))
+    (λ s. let used_up : room n (x ∷ used) y ≡ 0 = rw s (room_used n x used) in
+    let free : room n used y ≡ 1 = rw s (room_free n x used below q) in
+    omega (arith, hit_le y x, rest y, used_up, free))
     (λ d. omega (arith, hit_other y x d, rest y, room_other n x y used d))))
     (λ q. absurd (none-ne-some i (sym (rw q at first))))
 

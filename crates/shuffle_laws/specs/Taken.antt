@@ -135,7 +135,8 @@ leaf_label x [] h = h
 leaf_label x (g ∷ gs) h =
     by_eq x g.0
     (λ e. rw (eq-eqb x g.0 e) (omega (arith, hit_same g.1 g.1 refl)))
-    (λ d. rw (ne_eqb x g.0 d) (omega (arith, hit_other x g.0 d, leaf_label x gs (omega (arith, hit_other x g.0 d)))))
+    (λ d. let z : given (g ∷ gs) x ≡ given gs x = rw (ne_eqb x g.0 d) in
+    subst (λ (k : ℕ). 1 ≤ label_given k (g ∷ gs)) (sym z) (omega (arith, leaf_label x gs (omega (arith, hit_other x g.0 d)))))
 
 leaves_label : (x y : ℕ) (gs : List Given) → x ≢ y → 1 ≤ leaf_given x gs → 1 ≤ leaf_given y gs → given gs x ≡ given gs y
     → 2 ≤ label_given (given gs x) gs
@@ -145,15 +146,17 @@ leaves_label x y (g ∷ gs) d h k e =
     by_eq x g.0
     (λ ex. let ny : y ≢ g.0 = λ q. d (ex ∙ sym q) in
     let same : g.1 ≡ given gs y = rw (eq-eqb x g.0 ex, ne_eqb y g.0 ny) at e in
+    let first : given (g ∷ gs) x ≡ given gs y = rw (eq-eqb x g.0 ex) same in
     let other : 1 ≤ label_given (given gs y) gs = leaf_label y gs (omega (arith, hit_other y g.0 ny)) in
-    rw (eq-eqb x g.0 ex) (rw same (omega (arith, hit_same (given gs y) (given gs y) refl))))
+    subst (λ (k : ℕ). 2 ≤ label_given k (g ∷ gs)) (sym first) (omega (arith, hit_same (given gs y) g.1 (sym same), other)))
     (λ nx. let first : 1 ≤ leaf_given x gs = omega (arith, hit_other x g.0 nx) in
+    let later : given (g ∷ gs) x ≡ given gs x = rw (ne_eqb x g.0 nx) in
     by_eq y g.0
     (λ ey. let same : given gs x ≡ g.1 = rw (ne_eqb x g.0 nx, eq-eqb y g.0 ey) at e in
-    rw (ne_eqb x g.0 nx) (omega (arith, hit_same (given gs x) g.1 same, leaf_label x gs first)))
+    subst (λ (k : ℕ). 2 ≤ label_given k (g ∷ gs)) (sym later) (omega (arith, hit_same (given gs x) g.1 same, leaf_label x gs first)))
     (λ ny. let second : 1 ≤ leaf_given y gs = omega (arith, hit_other y g.0 ny) in
     let same : given gs x ≡ given gs y = rw (ne_eqb x g.0 nx, ne_eqb y g.0 ny) at e in
-    rw (ne_eqb x g.0 nx) (omega (arith, leaves_label x y gs d first second same))))
+    subst (λ (k : ℕ). 2 ≤ label_given k (g ∷ gs)) (sym later) (omega (arith, leaves_label x y gs d first second same))))
 
 -- the whole list of what is given to the leaves of a tree
 abbrev pub all_given : Tree → List Given

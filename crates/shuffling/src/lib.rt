@@ -1,4 +1,6 @@
 // Queue Shuffle of a vector: the new labels, and the vector of the relabelled tree.
+#![tactic(auto)]
+
 ghost use Rattle.std.specs.Prelude.{◌≡◌, ◌++◌, ◌≤◌, length, drop};
 ghost use Rattle.rules.specs.Vector.{Vector};
 ghost use Rattle.rules.specs.Tree.{tree_of};

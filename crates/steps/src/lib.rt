@@ -1,6 +1,7 @@
 // Adding 1 to every count above a place, without a test for each.
 //
 // Counts get 0s and then 1s added, from where the last 0 meets the place. No test stands in these loops, so that they become vector code.
+#![tactic(auto)]
 
 ghost use Rattle.std.specs.Prelude.{◌≡◌, ℕ, ◌+◌, ◌*◌, ◌/◌, ◌<◌, ◌≤◌, length, get_or, replicate};
 ghost use Rattle.steps.specs.Steps.{Steps, Added};

@@ -1,4 +1,5 @@
 // The table of a vector, written as rows.
+#![tactic(auto)]
 
 ghost use Rattle.std.specs.Prelude.{◌≡◌, ◌++◌, ◌-◌, ◌*◌, ◌≤◌, length, drop};
 ghost use Rattle.rules.specs.Vector.{Vector};

@@ -1,4 +1,6 @@
 // The public calls between a vector and a merge table.
+#![tactic(auto)]
+
 ghost use Rattle.rules.specs.Promise.{Keeps};
 ghost use Rattle.rules.specs.CallToTable.{to_table_call};
 ghost use Rattle.rules.specs.CallFromTable.{from_table_call};

@@ -1,4 +1,5 @@
 // The vector of a table that is read.
+#![tactic(auto)]
 
 ghost use Rattle.std.specs.Prelude.{◌≡◌, ◌-◌, ◌*◌, ◌≤◌, length};
 ghost use Rattle.table_order.specs.Told.{Told};

@@ -1,4 +1,6 @@
 // The public calls between a vector and a Newick text.
+#![tactic(auto)]
+
 ghost use Rattle.rules.specs.Promise.{Keeps};
 ghost use Rattle.rules.specs.CallToNewick.{to_newick_call};
 ghost use Rattle.rules.specs.CallFromNewick.{from_newick_call};

@@ -1,5 +1,6 @@
 // The cases of texts with blanks, one at a time, as `calls` runs those of all calls. The run stops at the end of the stream, and where a part
 // of a case is not whole. A text that is given may have more bytes than any that is read.
+#![tactic(auto)]
 
 fn main() {
     let mut text = [0u8; 65600];

@@ -2,6 +2,8 @@
 //
 // What is read goes to one array, since each further array that a call passes on costs more than a label does. The cells at its start stand
 // apart from each other, else the compiler joins two of them to a vector of two.
+#![tactic(auto)]
+
 ghost use Rattle.std.specs.Prelude.{◌≡◌, ◌<◌};
 ghost use Rattle.text_laws.specs.Cells.{leaf_in, pair_in, broken_in, Closing};
 

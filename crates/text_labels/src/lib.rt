@@ -1,4 +1,6 @@
 // A label of a text: the sign at a place, whether it is a digit, and the label that begins there.
+#![tactic(auto)]
+
 ghost use Rattle.std.specs.Prelude.{◌≡◌, ℕ, ◌+◌, ◌≤◌, ◌<◌, List, get_or};
 ghost use Rattle.rules.specs.Newick.{is_digit};
 ghost use Rattle.text_laws.specs.Answers.{Same, Labelled};

@@ -1,4 +1,6 @@
 // A node of a text: the node reader, which reads a label or a pair, and the pair reader call each other while the remaining signs fall.
+#![tactic(auto)]
+
 ghost use Rattle.std.specs.Prelude.{◌≡◌, ℕ, ◌-◌, List, get_or};
 ghost use Rattle.grammar.specs.Reading.{node_read};
 ghost use Rattle.text_laws.specs.Cells.{cell};

@@ -1,4 +1,6 @@
 // The signs of a whole text, read as a node, the sign at its end, and nothing behind it.
+#![tactic(auto)]
+
 ghost use Rattle.std.specs.Prelude.{◌≡◌, List, ℕ, length};
 ghost use Rattle.text_reader.specs.Reading.{InFront, TextAnswers};
 

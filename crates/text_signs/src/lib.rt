@@ -1,4 +1,6 @@
 // The signs of a text as sent: a copy of those that are read, and where one of them stands.
+#![tactic(auto)]
+
 ghost use Rattle.std.specs.Prelude.{◌≡◌, ◌&&◌, ℕ, min, ◌+◌, ◌≤◌, ◌<◌, length, get_or, drop};
 ghost use Rattle.rules.specs.Newick.{is_digit};
 ghost use Rattle.rules.specs.Sent.{blank, signs};

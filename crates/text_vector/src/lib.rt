@@ -1,4 +1,6 @@
 // The vector of a text as sent: its signs are read, its labels are checked, and the pairs that were recorded make the vector.
+#![tactic(auto)]
+
 ghost use Rattle.std.specs.Prelude.{◌≡◌, ◌++◌, ◌≤◌, length, drop};
 ghost use Rattle.rules.specs.Tree.{Tree};
 ghost use Rattle.rules.specs.Order.{vector_of};

@@ -3,6 +3,8 @@
 // A tree with n leaves is written from one array of words, one for each node, since each further array that a call passes on costs
 // more than a label does. The word of a leaf is the signs of its label (crate label_words), the word of a pair its two children, the
 // first one lowest.
+#![tactic(auto)]
+
 ghost use Rattle.std.specs.Prelude.{ℕ, ◌+◌, ◌≤◌, ◌≡◌, List, length};
 ghost use Rattle.std.proofs.lemmas.List.Edits.{sets};
 ghost use Rattle.rules.specs.Newick.{node_text, text_of};

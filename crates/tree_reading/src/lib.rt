@@ -1,4 +1,6 @@
 // A tree of an archive, read: its vector, or why it is refused.
+#![tactic(auto)]
+
 ghost use Rattle.std.specs.Prelude.{◌≡◌, ◌≤◌, length};
 ghost use Rattle.rules.specs.Archive.{bare_length};
 ghost use Rattle.rules.specs.CallReadTree.{read_tree};

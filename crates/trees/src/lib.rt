@@ -1,6 +1,7 @@
 // The public calls, under one name. Each keeps its promise for all inputs: its answer and every element of every lent buffer, as the
 // crate `rules` says it (Promise), for the call that stands there in a file of its own. Each refusal is named by its number in the table
 // of refusals; the order of the numbers is the order of the checks.
+#![tactic(auto)]
 
 // check(v): whether v is a vector: 1, 4.
 pub use vector_calls::check;

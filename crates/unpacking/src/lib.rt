@@ -1,4 +1,6 @@
 // A packed record, read: its vector, or why it is refused.
+#![tactic(auto)]
+
 ghost use Rattle.std.specs.Prelude.{◌≡◌, length};
 ghost use Rattle.record_laws.specs.FromRecord.{Headed};
 ghost use Rattle.unpacking.specs.Unpacks.{Unpacks};

@@ -1,4 +1,6 @@
 // The check of a vector: its first entry above its bound.
+#![tactic(auto)]
+
 ghost use Rattle.std.specs.Prelude.{◌≡◌, ℕ, ◌-◌, ◌*◌, ◌<◌, ◌≤◌, length, get_or};
 ghost use Rattle.vector.specs.Fault.{first_fault};
 

@@ -1,4 +1,6 @@
 // The public call about a vector alone: whether it is one.
+#![tactic(auto)]
+
 ghost use Rattle.rules.specs.Promise.{Keeps};
 ghost use Rattle.rules.specs.CallCheck.{check_call};
 

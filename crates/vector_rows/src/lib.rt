@@ -1,4 +1,5 @@
 // The rows of a vector, by their children.
+#![tactic(auto)]
 
 ghost use Rattle.std.specs.Prelude.{◌≡◌, ◌++◌, map, ◌-◌, length, drop};
 ghost use Rattle.rules.specs.Vector.{Vector};

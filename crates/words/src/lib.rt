@@ -1,4 +1,6 @@
 // Bytes as words, the first byte the most significant, and the low bits of a word.
+#![tactic(auto)]
+
 ghost use Rattle.std.specs.Prelude.{◌≡◌, ◌+◌, ◌*◌, ◌%◌, ◌≤◌, ◌<◌, ◌^◌, length, get_or};
 ghost use Rattle.record_laws.specs.Window.{word_at};
 

@@ -1,0 +1,17 @@
+-- `move_up` meets its contract: what lies behind k is final.
+use lib.ListN.{length-set}
+use Rattle.insertion.specs.Moved.{up_start, up_next, up_end}
+use native.Mathlib.Omega.{arith}
+use Rattle.insertion.proofs.move_up.Goals as goal
+
+pub loop-k-init : goal.loop-k-init
+loop-k-init c = up_start c.requires.0 c.requires.1
+
+pub loop-k-preserved : goal.loop-k-preserved
+loop-k-preserved c = up_next c.loop-k.invariant (omega arith)
+
+pub shape_of-list : goal.shape_of-list
+shape_of-list c = simp length-set c.loop-k.invariant.same
+
+pub returns : goal.returns
+returns c = up_end c.loop-k.invariant (omega arith)

@@ -1,0 +1,47 @@
+use native.Mathlib.Omega.{arith}
+use borrow.Author.Rules.{rules}
+use Rattle.pair_children.proofs.Numbering.{Numbering, numbering_start, numbering_room, numbering_next, numbering_end}
+use Prim.Native.Nat.{◌-◌}
+use Rattle.pair_children.proofs.numbered_children.Reads as reads
+use Rattle.pair_children.proofs.numbered_children.Lts as lts
+use Rattle.pair_children.proofs.child_number.Reads as child-number-reads
+use Rattle.pair_children.proofs.numbered_children.Goals as goal
+
+pub loop-k-init : goal.loop-k-init
+loop-k-init c = let asked = c.requires in numbering_start asked.0 asked.1 asked.2 asked.3
+
+pub overflow_add-k : goal.overflow_add-k
+overflow_add-k c = omega (arith, c.loop-k.invariant.few, c.loop-k.invariant.firsts.high)
+
+pub bounds-pairs-k : goal.bounds-pairs-k
+bounds-pairs-k c = omega (arith, c.loop-k-test.true, c.loop-k.invariant.pairs_there)
+
+pub child_number-requires : goal.child_number-requires
+child_number-requires c = omega (arith, c.shared_slice_known-in-loop-k-1.given c.loop-k.k, c.loop-k.invariant.few)
+
+pub bounds-left-k : goal.bounds-left-k
+bounds-left-k c = (numbering_room c.loop-k.invariant c.loop-k-test.true).0
+
+pub child_number-requires-in-loop-k : goal.child_number-requires-in-loop-k
+child_number-requires-in-loop-k c = let at-loop = c in omega (arith, c.shared_slice_known-in-loop-k-1.given at-loop.loop-k.k, at-loop.loop-k.invariant.few)
+
+pub bounds-right-k : goal.bounds-right-k
+bounds-right-k c = (numbering_room c.loop-k.invariant c.loop-k-test.true).1
+
+pub overflow_add-k-in-loop-k : goal.overflow_add-k-in-loop-k
+overflow_add-k-in-loop-k c = omega (arith, c.loop-k.invariant.few, c.loop-k-test.true)
+
+pub loop-k-smaller : goal.loop-k-smaller
+loop-k-smaller c = omega (arith, c.loop-k-test.true)
+
+pub loop-k-preserved : goal.loop-k-preserved
+loop-k-preserved c = numbering_next c.loop-k.invariant c.loop-k-test.true c.child_number.ensures c.child_number-in-loop-k.ensures
+
+pub shape_of-left : goal.shape_of-left
+shape_of-left c = c.loop-k.invariant.firsts.same
+
+pub shape_of-right : goal.shape_of-right
+shape_of-right c = c.loop-k.invariant.seconds.same
+
+pub returns : goal.returns
+returns c = numbering_end c.loop-k.invariant c.loop-k-test.false
