@@ -26,7 +26,7 @@ fault_step {n} {xs} {at} {m} w =
 fault_in_inside : {n : ℕ} {xs : List ℕ} {at : ℕ} (left p : ℕ) → Left n xs at left → fault_in at (cut n left (drop at xs)) ≡ some p → p < length xs
 unfolding cut fault_in fault_at
 fault_in_inside zero p w e = absurd (none-ne-some p e)
-fault_in_inside {n} {xs} {at} (suc m) p w e = go (fault 0 (take n (drop at xs))) refl (rw (fault_step w) at e) (fault_in_inside m p (next_left w))
+fault_in_inside {n = n} {xs = xs} {at = at} (suc m) p w e = go (fault 0 (take n (drop at xs))) refl (rw (fault_step w) at e) (fault_in_inside {n = n} {xs = xs} {at = at + n} m p (next_left w))
   where
     go : (o : Option ℕ) → fault 0 (take n (drop at xs)) ≡ o → fault_at at o (fault_in (at + n) (cut n m (drop (at + n) xs))) ≡ some p
         → (fault_in (at + n) (cut n m (drop (at + n) xs)) ≡ some p → p < length xs) → p < length xs

@@ -13,7 +13,7 @@ use Rattle.basics.specs.Bools.{or_false}
 use Rattle.clades.specs.Leaves.{has_left, has_right, has_cases, least_has, least_apart}
 use Rattle.written_tables.specs.Nodes.{noded}
 use Rattle.read_tables.specs.Larger.{Pair, lesser, top_has, pair_has, pair_above, top_left, top_right}
-use Rattle.read_tables.specs.Count.{last_or_before, count, count_pos, count_without}
+use Rattle.read_tables.specs.Count.{last_or_before, count_pos, count_without}
 use Rattle.read_tables.specs.Forest.{named_also, named_in, RowOk, Forest, forest_start, forest_next, forest_end, named_snoc, nodes_snoc, named_no}
 use Rattle.read_tables.specs.Chains.{lowest, chain, Smaller, In, Bounded, in_left, chain_own, chain_other, chain_in, lowest_starts}
 use Rattle.chains.specs.Key.{no_key}

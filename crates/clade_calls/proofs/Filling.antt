@@ -22,7 +22,7 @@ use Rattle.clade_passes.specs.Archive.{vectors_made}
 use Rattle.clade_passes.specs.Batches.{batch_at, batch_entry}
 use Rattle.clade_passes.specs.Bounds.{trees_counts}
 use Rattle.clade_batch.specs.Held.{most, entry_at, held_in, none, held_length, held_at}
-use Rattle.clade_entries.specs.Table.{table_of}
+use Rattle.clade_entries.specs.Table.{table_of_lem}
 use Rattle.clade_calls.specs.Checked.{table, Tabled, NoTable, of_archive, of_room, Checked, stopped, fits, table_made}
 use Rattle.clade_calls.specs.Filling.{Ready, Readied, held_entry, finished}
 
@@ -46,7 +46,7 @@ each_at c (e ∷ es) E (suc i) h = each_at c es E.1 i (omega arith)
 count_small : (s : List ℕ) → Tabled s → (i : ℕ) → i < length (table s) → (get_or (table s) i none).count < 4294967296
 count_small s R i h =
     let v = vectors_made (leaf_count s) s (trees_in s) R.vectors R.given.some R.read in
-    let c = each_at (length R.vectors) (table s) (rw (table_of R) (trees_counts (leaf_count s) R.vectors v.1)) i h in
+    let c = each_at (length R.vectors) (table s) (rw (table_of_lem R) (trees_counts (leaf_count s) R.vectors v.1)) i h in
     omega (arith, c, v.0, R.given.counted)
 
 -- an entry with its count cut to 32 bits

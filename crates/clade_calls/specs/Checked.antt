@@ -134,7 +134,7 @@ module _ (s : List ℕ) where
       let F : HasTree s r = record { some_leaf = G.some; few = omega (arith, G.few); whole = G.whole; below = h } in
       let w : read_tree s r ≡ refuses q.0 q.1 = reader_inside s r F ∙ q.2 in
       let v : vectors_in n s (trees_in s) ≡ refuses q.0 q.1 = vectors_refused n s r (trees_in s) q.0 q.1 P.vectors P.read q.2 h in
-      stopped {number = q.0} {place = q.1} (K.answered ∙ ap (λ m. answers (read_tree_call s r) m old) (sym K.Made-so ∙ w)) (of_archive {number = q.0} {place = q.1} (trees_next G ∙ rw v refl)) e
+      stopped {number = q.0} {place = q.1} (K.answered ∙ ap (λ m. answers (read_tree_call s r) m old) (sym K.made_so ∙ w)) (of_archive {number = q.0} {place = q.1} (trees_next G ∙ rw v refl)) e
 
 -- ---- where all trees can be read
 module _ {s : List ℕ} (R : Tabled s) where

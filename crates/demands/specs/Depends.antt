@@ -60,15 +60,15 @@ module _ (m : Made) (old old' : List ℕ) (same : length old ≡ length old') wh
 
   same_reading : (a b : Answer) (new new' : List ℕ) → Keeps (makes list m) old a new → Keeps (makes list m) old' b new' → SameReading a b old new old' new'
   same_reading a b new new' P Q =
-      let p : reads a ≡ answers (makes list m) m old = P.answered ∙ ap (λ (o : Made). answers (makes list m) o old) (sym P.Made-so) in
-      let q : reads b ≡ answers (makes list m) m old' = Q.answered ∙ ap (λ (o : Made). answers (makes list m) o old') (sym Q.Made-so) in
+      let p : reads a ≡ answers (makes list m) m old = P.answered ∙ ap (λ (o : Made). answers (makes list m) o old) (sym P.made_so) in
+      let q : reads b ≡ answers (makes list m) m old' = Q.answered ∙ ap (λ (o : Made). answers (makes list m) o old') (sym Q.made_so) in
       let E = same_elements m in
       record {
         same_answer = reads_unique a b (p ∙ same_outcome ∙ sym q);
         written = E.0;
         counted = rw p E.1;
-        first = P.held ∙ ap (λ (o : Made). holds (makes list m) o old) (sym P.Made-so) ∙ E.2;
-        second = Q.held ∙ ap (λ (o : Made). holds (makes list m) o old') (sym Q.Made-so) ∙ E.3;
+        first = P.held ∙ ap (λ (o : Made). holds (makes list m) o old) (sym P.made_so) ∙ E.2;
+        second = Q.held ∙ ap (λ (o : Made). holds (makes list m) o old') (sym Q.made_so) ∙ E.3;
       }
 
 module _ (s t : List ℕ) (r : ℕ) (A : Alike s t r) where

@@ -1,4 +1,1 @@
-pub mod EntryCall
-mod EntryLoop
-mod WidthCall
 pub mod Reading

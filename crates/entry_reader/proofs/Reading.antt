@@ -1,11 +1,11 @@
 -- While entries are read, one by one or four by four, by numbers of bits; and what that says of a reading position.
--- Main definitions: Passed, Onward, Running. Main results: passed_read, onward_one, onward_read, running_next.
-use mathlib.Core.Path.{◌≡◌, refl, ap, subst, ◌∙◌}
+-- Main definitions: Passed, Onward, Running. Main results: onward_one, onward_moved, onward_done, running_next.
+use mathlib.Core.Path.{◌≡◌, refl, sym, ap, subst, ◌∙◌}
 use mathlib.Core.List.{List, [], ◌∷◌, ◌++◌}
 use Prim.Native.Nat.{ℕ, suc, ◌+◌, ◌-◌, ◌*◌, ◌%◌, ◌≤◌, ◌<◌}
 use native.Mathlib.Numerals.{add-one}
 use native.Mathlib.Omega.{arith}
-use denote.Ref.{Bor}
+use Rattle.std.specs.Borrow.{Bor}
 use lib.ListN.{length, set, length-set}
 use lib.Seq.{take-suc-set}
 use Rattle.rules.specs.Order.{listed}
@@ -26,12 +26,12 @@ pub record Passed (s : List ℕ) (at i end : ℕ) (before : List ℕ) (next : �
 
 -- the same of a reading position, there and back
 module _ (d : Reader) {i end : ℕ} {before after : List ℕ} (h : i ≤ end) where
-  pub passed_read : {next : ℕ} → Passed d.bytes.now d.at i end before next after → Read d i end before (record { bytes = d.bytes; at = next }) after
+  passed_read : {next : ℕ} → Passed d.bytes.now d.at i end before next after → Read d i end before (record { bytes = d.bytes; at = next }) after
   passed_read {next} p =
       let e : next ≡ d.at + (total end - total i) = omega (arith, p.ends, total_mono i end h) in
       record { moved = ap (λ (n : ℕ). record { bytes = d.bytes; at = n }) e; reads = p.reads }
 
-  pub read_passed : {q : Reader} → Read d i end before q after → Passed d.bytes.now d.at i end before q.at after
+  read_passed : {q : Reader} → Read d i end before q after → Passed d.bytes.now d.at i end before q.at after
   read_passed {q} r = record { ends = omega (arith, ap (λ (p : Reader). p.at) r.moved, total_mono i end h); reads = r.reads }
 
 -- no entry is read
@@ -121,12 +121,17 @@ module _ {s : List ℕ} {at₀ i₀ end behind : ℕ} {out₀ : List ℕ} {at i 
         (passed_one s at i out (at + w) (i + 1) (value_at s at w) (ap (λ (k : ℕ). at + k) e) refl (ap (value_at s at) e) (omega (arith, o.same, o.left.fits))))
 
 -- the same by a reading position over the bytes
-pub onward_read : (x : Bor (List ℕ)) {at₀ i₀ end behind : ℕ} {out₀ : List ℕ} {at i : ℕ} {out : List ℕ} → Onward x.now at₀ i₀ end behind out₀ at i out
+onward_read : (x : Bor (List ℕ)) {at₀ i₀ end behind : ℕ} {out₀ : List ℕ} {at i : ℕ} {out : List ℕ} → Onward x.now at₀ i₀ end behind out₀ at i out
     → (m : ℕ) (q : Reader) (after : List ℕ) → i ≤ m → m ≤ end → length after ≡ length out → Read (record { bytes = x; at = at }) i m out q after
     → Onward x.now at₀ i₀ end behind out₀ (at + (total m - total i)) m after
 onward_read x {at = at} {i = i} {out = out} o m q after a b e r =
     onward_more o m (at + (total m - total i)) after a b e
     (subst (λ (n : ℕ). Passed x.now at i m out n after) (ap (λ (p : Reader). p.at) r.moved) (read_passed (record { bytes = x; at = at }) a r))
+
+-- which moves on, over the same bytes
+pub onward_moved : (x : Bor (List ℕ)) {q p : Reader} {at₀ i₀ end behind : ℕ} {out₀ : List ℕ} {i : ℕ} {out : List ℕ} → (q.bytes ≡ x) × Onward q.bytes.now at₀ i₀ end behind out₀ q.at i out
+    → (m : ℕ) (after : List ℕ) → i ≤ m → m ≤ end → length after ≡ length out → Read q i m out p after → (p.bytes ≡ x) × Onward p.bytes.now at₀ i₀ end behind out₀ p.at m after
+onward_moved x {q = q} {p = p} o m after a b e r = rw r.moved (o.0, onward_read q.bytes o.1 m p after a b e r)
 
 -- twelve entries behind those that are left have the bits to fill up a word
 pub onward_words : {s : List ℕ} {at₀ i₀ end : ℕ} {out₀ : List ℕ} {at i : ℕ} {out : List ℕ} (m : ℕ) → Onward s at₀ i₀ end 0 out₀ at i out
@@ -148,6 +153,14 @@ onward_words {end = end} {i = i} m o a b f =
 pub onward_end : {s : List ℕ} {at₀ i₀ end behind : ℕ} {out₀ : List ℕ} {at i : ℕ} {out : List ℕ} → Onward s at₀ i₀ end behind out₀ at i out → end ≤ i
     → Passed s at₀ i₀ end out₀ at out
 onward_end {end = end} {i = i} o h = let e : i ≡ end = omega (arith, o.left.most) in rw e at o.passed
+
+-- which a reading position q that came from d has done
+pub onward_done : (d q : Reader) {i end behind k : ℕ} {before after : List ℕ} → q.bytes ≡ d.bytes → Onward q.bytes.now d.at i end behind before q.at k after → end ≤ k
+    → Read d i end before q after
+onward_done d q {i = i} {end = end} {before = before} {after = after} e o h =
+    let passed : Passed d.bytes.now d.at i end before q.at after = rw e at (onward_end o h) in
+    let same : record { bytes = d.bytes; at = q.at } ≡ q = ap (λ (x : Bor (List ℕ)). record { bytes = x; at = q.at }) (sym e) in
+    subst (λ (p : Reader). Read d i end before p after) same (passed_read d (omega (arith, o.since, o.left.most)) passed)
 
 -- the same within a run of one width, four by four
 pub record Running (s : List ℕ) (at₀ i₀ end : ℕ) (out₀ : List ℕ) (w at i : ℕ) (out : List ℕ) : Type 0 where

@@ -3,7 +3,7 @@
 use mathlib.Core.Path.{◌≡◌, ap, ◌∙◌}
 use mathlib.Core.List.{List}
 use Prim.Native.Nat.{ℕ, ◌+◌, ◌-◌, ◌<◌}
-use denote.Ref.{Bor}
+use Rattle.std.specs.Borrow.{Bor}
 use lib.ListN.{length, take, get_or}
 use lib.Seq.{get_or-set_same}
 use Rattle.rules.specs.Record.{total}

@@ -29,7 +29,3 @@ pub mod CallCladeTable
 pub mod CallShuffle
 pub mod CallRelabel
 pub mod Listing
-pub mod Samples
-pub mod ArchiveSamples
-pub mod CladeSamples
-pub mod TextSamples

@@ -3,7 +3,7 @@
 #![tactic(auto)]
 
 /// Why an input is refused: one case for each number of the refusal table, in its order.
-#[derive(Drop)]
+#[derive(Clone, Copy)]
 pub enum Kind {
     LeafCount,
     InputLength,
@@ -24,21 +24,21 @@ pub enum Kind {
 }
 
 /// A refusal: its kind and its place.
-#[derive(Drop)]
+#[derive(Clone, Copy)]
 pub struct Refusal {
     pub kind: Kind,
     pub place: usize,
 }
 
 /// What every public call answers: the number of elements written, or the refusal.
-#[derive(Drop)]
+#[derive(Clone, Copy)]
 pub enum Answer {
     Done(usize),
     Refused(Refusal),
 }
 
 /// A part of a lent list: the number of its first element, and how many it has.
-#[derive(Drop)]
+#[derive(Clone, Copy)]
 pub struct Part {
     pub start: usize,
     pub length: usize,
@@ -46,7 +46,7 @@ pub struct Part {
 
 /// An entry of the clade table: the leaf set of a clade, leaf x as bit x; how many leaves it has; in how many trees it occurs.
 #[repr(C)]
-#[derive(Drop)]
+#[derive(Clone, Copy)]
 pub struct Clade {
     pub leaves: u64,
     pub size: u32,

@@ -45,7 +45,7 @@ unfolding check answers reads
 refused_alike {L} {W} v c m {old} {r} {why} h K e = go (seen v)
   where
     says : (x : Making (Unit {0})) → check v ≡ x → reads (Refused why) ≡ answers (check_call v) x tt
-    says x q = ap reads (sym e) ∙ K.answered ∙ ap (λ (y : Making (Unit {0})). answers (check_call v) y tt) (sym K.Made-so ∙ q)
+    says x q = ap reads (sym e) ∙ K.answered ∙ ap (λ (y : Making (Unit {0})). answers (check_call v) y tt) (sym K.made_so ∙ q)
 
     go : Seen v → Keeps c old (Refused why) old
     go (faulty number place f) = refused_early c (subst c.Makes (f W m) h) (says (refuses number place) (f (Unit {0}) (made tt)))
@@ -60,5 +60,5 @@ checked_sound {v} {r} {k} K e = go (seen v)
     go (faulty number place f) =
         absurd
         (done_not_refused k number place
-        (ap reads (sym e) ∙ K.answered ∙ ap (λ (y : Making (Unit {0})). answers (check_call v) y tt) (sym K.Made-so ∙ f (Unit {0}) (made tt))))
+        (ap reads (sym e) ∙ K.answered ∙ ap (λ (y : Making (Unit {0})). answers (check_call v) y tt) (sym K.made_so ∙ f (Unit {0}) (made tt))))
     go (sound ok f) = ok

@@ -1,11 +1,6 @@
 -- `archive_faults::first_fault_in` meets its contract: the vectors are searched one by one.
-use native.Mathlib.Omega.{arith}
-use borrow.Author.Rules.{rules}
-use mathlib.Core.Path.{◌≡◌, ap, ◌∙◌}
-use Prim.Native.Nat.{ℕ, ◌+◌, ◌-◌}
-use lib.ListN.{take, drop}
-use Rattle.vector.specs.Fault.{first_fault}
-use Rattle.archive_faults.specs.FaultIn.{Searched, searched_start, searched_end, searched_inside, searched_next, searched_here}
+use Prim.Native.Nat.{◌-◌}
+use Rattle.archive_faults.specs.FaultIn.{Searched}
 use Rattle.archive_faults.proofs.first_fault_in.Given as goal
 
 abbrev pub invariant-loop-at : goal.invariant-loop-at

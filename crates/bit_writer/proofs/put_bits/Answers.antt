@@ -1,13 +1,13 @@
--- `bit_writer::put_bits` meets its contract: the bits are pushed in from below, and all that is held is stored (`put-counted`).
+-- `bit_writer::put_bits` meets its contract: the bits are pushed in from below, and all that is held is stored (`put_counted`).
 use native.Mathlib.Omega.{arith}
 use borrow.Author.Rules.{rules}
 use Rattle.bit_writer.proofs.Writing.{put_counted}
 use Rattle.bit_writer.proofs.put_bits.Goals as goal
 
 pub returns : goal.returns
-returns c = let stored = c in
-    let a = stored.args in
+returns c =
+    let a = c.args in
     record {
       count = search rules;
-      held = λ bits r. rw stored.Store-word.ensures (put_counted bits a.p.acc a.p.bits a.out.now a.width a.x r (omega arith) (omega arith) (omega arith));
+      held = λ bits r. rw c.store_word.ensures (put_counted bits a.p.acc a.p.bits a.out.now a.width a.x r (omega arith) (omega arith) (omega arith));
     }

@@ -1,4 +1,4 @@
--- `bit_writer::put_field` meets its contract: a field without bits changes nothing (`none-held`).
+-- `bit_writer::put_field` meets its contract: a field without bits changes nothing (`none_held`).
 use borrow.Author.Rules.{rules}
 use Prim.Native.Nat.{◌/◌, ◌%◌}
 use Rattle.bit_writer.proofs.Writing.{none_held}

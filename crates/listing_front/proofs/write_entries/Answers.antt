@@ -1,25 +1,9 @@
 -- `write_entries` meets its contract: the first i entries stand there with commas.
 use native.Mathlib.Omega.{arith}
-use borrow.Author.Rules.{rules}
-use mathlib.Core.List.{List}
-use Prim.Native.Nat.{ℕ, ◌-◌}
-use lib.ListN.{length, length-set}
+use lib.ListN.{length-set}
 use Rattle.digits.specs.Count.{digits_at_most}
-use Rattle.listing_front.proofs.Commas.{Listed, listed_start, listed_next, listed_end, listed_same, listed_room, entry_small}
+use Rattle.listing_front.proofs.Commas.{listed_start, listed_next, listed_end, listed_same, listed_room, entry_small}
 use Rattle.listing_front.proofs.write_entries.Goals as goal
-
--- the place where the function begins, seen from the loop
-
-abbrev start : goal.At-loop-i → goal.Start
-start c = c.before.before.before.before.before.before.before.before.before
-
--- the entries that stand there
-
-here : (c : goal.At-loop-i) → Listed (start c).args.v.now (start c).args.at (start c).args.out.now c.loop-i.out c.loop-i.i c.loop-i.x
-here c =
-    let first = c in
-    let p = (start c).requires in
-    c.loop-i.invariant (start c).args.out.now (listed_start p.0 p.1 first.wide.ensures first.write_label-x.ensures)
 
 pub write_label-x-requires : goal.write_label-x-requires
 write_label-x-requires c = let w = c.wide in
@@ -31,16 +15,16 @@ pub loop-i-init : goal.loop-i-init
 loop-i-init c = λ before L. L
 
 pub bounds-out-x : goal.bounds-out-x
-bounds-out-x c = omega (arith, listed_room (here c.before) c.loop-i-test.true)
+bounds-out-x c = omega (arith, listed_room (c.loop-i.invariant _ (listed_start c.requires.0 c.requires.1 c.wide.ensures c.write_label-x.ensures)) c.loop-i-test.true)
 
 pub overflow_add-x : goal.overflow_add-x
 overflow_add-x c = let turn = c in
-    let L = here turn.before in
+    let L = c.loop-i.invariant _ (listed_start c.requires.0 c.requires.1 c.wide.ensures c.write_label-x.ensures) in
     omega (arith, listed_room L turn.loop-i-test.true, listed_same L)
 
 pub write_label-x-requires-in-loop-i : goal.write_label-x-requires-in-loop-i
 write_label-x-requires-in-loop-i c = let turn = c in
-    let L = here turn.before in
+    let L = c.loop-i.invariant _ (listed_start c.requires.0 c.requires.1 c.wide.ensures c.write_label-x.ensures) in
     (rw c.wide-in-loop-i.ensures (entry_small _ _ L.accepted turn.loop-i-test.true), simp length-set (omega (arith, listed_room L turn.loop-i-test.true, digits_at_most 4 c.wide-in-loop-i.result)))
 
 pub loop-i-preserved : goal.loop-i-preserved
@@ -50,7 +34,7 @@ loop-i-preserved c = λ before L.
     listed_next (turn.loop-i.invariant before L) turn.loop-i-test.true label.wide-in-loop-i.ensures label.write_label-x-in-loop-i.ensures
 
 pub shape_of-out : goal.shape_of-out
-shape_of-out c = listed_same (here c.before)
+shape_of-out c = listed_same (c.loop-i.invariant _ (listed_start c.requires.0 c.requires.1 c.wide.ensures c.write_label-x.ensures))
 
 pub returns : goal.returns
-returns c = listed_end (here c.before) c.loop-i-test.false
+returns c = listed_end (c.loop-i.invariant _ (listed_start c.requires.0 c.requires.1 c.wide.ensures c.write_label-x.ensures)) c.loop-i-test.false

@@ -1,11 +1,8 @@
 -- `write_entries` meets its contract: the first i entries stand there with commas.
-use native.Mathlib.Omega.{arith}
-use borrow.Author.Rules.{rules}
 use mathlib.Core.List.{List}
 use Prim.Native.Nat.{ℕ, ◌-◌}
-use lib.ListN.{length, length-set}
-use Rattle.digits.specs.Count.{digits_at_most}
-use Rattle.listing_front.proofs.Commas.{Listed, listed_start, listed_next, listed_end, listed_same, listed_room, entry_small}
+use lib.ListN.{length}
+use Rattle.listing_front.proofs.Commas.{Listed}
 use Rattle.listing_front.proofs.write_entries.Given as goal
 
 abbrev pub invariant-loop-i : goal.invariant-loop-i

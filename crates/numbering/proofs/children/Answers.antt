@@ -1,34 +1,9 @@
 -- `children` meets its contract: the first t rows are done, and number has the node of each name.
 use mathlib.Core.Path.{refl}
-use Prim.Native.Nat.{◌-◌, ◌<◌}
-use lib.ListN.{length}
-use Rattle.numbering.specs.Numbered.{NextMerge, next_merge}
-use Rattle.numbering.specs.Columns.{Columns, columns_start, columns_next, columns_end}
+use Rattle.numbering.specs.Numbered.{next_merge}
+use Rattle.numbering.specs.Columns.{columns_start, columns_next, columns_end}
 use native.Mathlib.Omega.{arith}
-use borrow.Author.Rules.{rules}
 use Rattle.numbering.proofs.children.Goals as goal
-
--- the numbers of a turn
-
-here : (c : goal.After-wide-a) →
-    let wide = c.wide-b in
-    let loop = c.loop-t in
-    let args = c.args in
-    NextMerge args.list.now args.small.now args.start args.n loop.number loop.t c.wide-a.result wide.result
-here c = next_merge c.loop-t.invariant.numbered c.loop-t-test.true c.wide-b.ensures c.wide-a.ensures
-
--- both names of the merge have a number
-
-named : (c : goal.After-wide-a) →
-    let wide = c.wide-b in
-    let loop = c.loop-t in
-    (c.wide-a.result < length loop.number) × (wide.result < length loop.number) × (c.wide-a.result < 1024) × (wide.result < 1024)
-named c =
-    let T = here c in
-    let a = T.name_a in
-    let b = T.name_b in
-    let few = T.few in
-    (T.a_in_number, T.b_in_number, omega arith, omega arith)
 
 pub overflow_sub-last : goal.overflow_sub-last
 overflow_sub-last c = c.requires.0.some
@@ -49,19 +24,19 @@ pub bounds-small-b : goal.bounds-small-b
 bounds-small-b c = (next_merge c.loop-t.invariant.numbered c.loop-t-test.true c.wide-b.ensures refl).in_small
 
 pub offset_bounds-number-a : goal.offset_bounds-number-a
-offset_bounds-number-a c = let m = named (c) in omega arith
+offset_bounds-number-a c = let T = next_merge c.loop-t.invariant.numbered c.loop-t-test.true c.wide-b.ensures c.wide-a.ensures in let a = T.a_in_number in let b = T.b_in_number in let na = T.name_a in let nb = T.name_b in let few = T.few in omega arith
 
 pub bounds-number-a : goal.bounds-number-a
-bounds-number-a c = let m = named c.before in omega arith
+bounds-number-a c = let T = next_merge c.loop-t.invariant.numbered c.loop-t-test.true c.wide-b.ensures c.wide-a.ensures in let a = T.a_in_number in let b = T.b_in_number in let na = T.name_a in let nb = T.name_b in let few = T.few in omega arith
 
 pub bounds-left-t : goal.bounds-left-t
 bounds-left-t c = omega (arith, c.loop-t.invariant.in_left, c.loop-t.invariant.same_left, c.loop-t-test.true)
 
 pub offset_bounds-number-b : goal.offset_bounds-number-b
-offset_bounds-number-b c = let m = named c.before in omega arith
+offset_bounds-number-b c = let T = next_merge c.loop-t.invariant.numbered c.loop-t-test.true c.wide-b.ensures c.wide-a.ensures in let a = T.a_in_number in let b = T.b_in_number in let na = T.name_a in let nb = T.name_b in let few = T.few in omega arith
 
 pub bounds-number-b : goal.bounds-number-b
-bounds-number-b c = let m = named c.before.before in omega arith
+bounds-number-b c = let T = next_merge c.loop-t.invariant.numbered c.loop-t-test.true c.wide-b.ensures c.wide-a.ensures in let a = T.a_in_number in let b = T.b_in_number in let na = T.name_a in let nb = T.name_b in let few = T.few in omega arith
 
 pub bounds-right-t : goal.bounds-right-t
 bounds-right-t c = let loop-test = c.loop-t-test in
@@ -69,16 +44,16 @@ bounds-right-t c = let loop-test = c.loop-t-test in
     omega (arith, loop.invariant.in_right, loop.invariant.same_right, loop-test.true)
 
 pub overflow_add-number : goal.overflow_add-number
-overflow_add-number c = let T = here c.before.before in let few = T.few in omega arith
+overflow_add-number c = let T = next_merge c.loop-t.invariant.numbered c.loop-t-test.true c.wide-b.ensures c.wide-a.ensures in let few = T.few in omega arith
 
 pub overflow_cast-number : goal.overflow_cast-number
-overflow_cast-number c = let T = here c.before.before in let few = T.few in omega arith
+overflow_cast-number c = let T = next_merge c.loop-t.invariant.numbered c.loop-t-test.true c.wide-b.ensures c.wide-a.ensures in let few = T.few in omega arith
 
 pub offset_bounds-number-a-in-loop-t : goal.offset_bounds-number-a-in-loop-t
-offset_bounds-number-a-in-loop-t c = let m = named c.before.before in omega arith
+offset_bounds-number-a-in-loop-t c = let T = next_merge c.loop-t.invariant.numbered c.loop-t-test.true c.wide-b.ensures c.wide-a.ensures in let a = T.a_in_number in let b = T.b_in_number in let na = T.name_a in let nb = T.name_b in let few = T.few in omega arith
 
 pub bounds-number-a-in-loop-t : goal.bounds-number-a-in-loop-t
-bounds-number-a-in-loop-t c = let m = named c.before.before in omega arith
+bounds-number-a-in-loop-t c = let T = next_merge c.loop-t.invariant.numbered c.loop-t-test.true c.wide-b.ensures c.wide-a.ensures in let a = T.a_in_number in let b = T.b_in_number in let na = T.name_a in let nb = T.name_b in let few = T.few in omega arith
 
 pub loop-t-preserved : goal.loop-t-preserved
 loop-t-preserved c = let wide2 = c.wide-a in
@@ -97,4 +72,6 @@ pub shape_of-right : goal.shape_of-right
 shape_of-right c = c.loop-t.invariant.same_right
 
 pub returns : goal.returns
-returns c = columns_end c.loop-t.invariant c.loop-t-test.false
+returns c =
+    let e = columns_end c.loop-t.invariant c.loop-t-test.false in
+    record { left_after = e.0; right_after = e.1 }

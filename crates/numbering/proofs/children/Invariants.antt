@@ -1,11 +1,6 @@
 -- `children` meets its contract: the first t rows are done, and number has the node of each name.
-use mathlib.Core.Path.{refl}
-use Prim.Native.Nat.{◌-◌, ◌<◌}
-use lib.ListN.{length}
-use Rattle.numbering.specs.Numbered.{NextMerge, next_merge}
-use Rattle.numbering.specs.Columns.{Columns, columns_start, columns_next, columns_end}
-use native.Mathlib.Omega.{arith}
-use borrow.Author.Rules.{rules}
+use Prim.Native.Nat.{◌-◌}
+use Rattle.numbering.specs.Columns.{Columns}
 use Rattle.numbering.proofs.children.Given as goal
 
 abbrev pub invariant-loop-t : goal.invariant-loop-t

@@ -1,10 +1,5 @@
 use native.Mathlib.Omega.{arith}
-use borrow.Author.Rules.{rules}
-use Rattle.pair_children.proofs.Numbering.{Numbering, numbering_start, numbering_room, numbering_next, numbering_end}
-use Prim.Native.Nat.{◌-◌}
-use Rattle.pair_children.proofs.numbered_children.Reads as reads
-use Rattle.pair_children.proofs.numbered_children.Lts as lts
-use Rattle.pair_children.proofs.child_number.Reads as child-number-reads
+use Rattle.pair_children.proofs.Numbering.{numbering_start, numbering_room, numbering_next, numbering_end}
 use Rattle.pair_children.proofs.numbered_children.Goals as goal
 
 pub loop-k-init : goal.loop-k-init
@@ -16,14 +11,8 @@ overflow_add-k c = omega (arith, c.loop-k.invariant.few, c.loop-k.invariant.firs
 pub bounds-pairs-k : goal.bounds-pairs-k
 bounds-pairs-k c = omega (arith, c.loop-k-test.true, c.loop-k.invariant.pairs_there)
 
-pub child_number-requires : goal.child_number-requires
-child_number-requires c = omega (arith, c.shared_slice_known-in-loop-k-1.given c.loop-k.k, c.loop-k.invariant.few)
-
 pub bounds-left-k : goal.bounds-left-k
 bounds-left-k c = (numbering_room c.loop-k.invariant c.loop-k-test.true).0
-
-pub child_number-requires-in-loop-k : goal.child_number-requires-in-loop-k
-child_number-requires-in-loop-k c = let at-loop = c in omega (arith, c.shared_slice_known-in-loop-k-1.given at-loop.loop-k.k, at-loop.loop-k.invariant.few)
 
 pub bounds-right-k : goal.bounds-right-k
 bounds-right-k c = (numbering_room c.loop-k.invariant c.loop-k-test.true).1
@@ -44,4 +33,4 @@ pub shape_of-right : goal.shape_of-right
 shape_of-right c = c.loop-k.invariant.seconds.same
 
 pub returns : goal.returns
-returns c = numbering_end c.loop-k.invariant c.loop-k-test.false
+returns c = let e = numbering_end c.loop-k.invariant c.loop-k-test.false in record { left_after = e.0; right_after = e.1 }

@@ -1,10 +1,5 @@
-use native.Mathlib.Omega.{arith}
-use borrow.Author.Rules.{rules}
-use Rattle.pair_children.proofs.Numbering.{Numbering, numbering_start, numbering_room, numbering_next, numbering_end}
+use Rattle.pair_children.proofs.Numbering.{Numbering}
 use Prim.Native.Nat.{◌-◌}
-use Rattle.pair_children.proofs.numbered_children.Reads as reads
-use Rattle.pair_children.proofs.numbered_children.Lts as lts
-use Rattle.pair_children.proofs.child_number.Reads as child-number-reads
 use Rattle.pair_children.proofs.numbered_children.Given as goal
 
 abbrev pub invariant-loop-k : goal.invariant-loop-k

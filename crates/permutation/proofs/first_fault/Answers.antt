@@ -10,14 +10,12 @@ pub mark-requires : goal.mark-requires
 mark-requires c = omega (arith, c.loop-i.invariant.small, c.loop-i.invariant.marked.size)
 
 pub returns-then-not-mark : goal.returns-then-not-mark
-returns-then-not-mark c = let turn = c in
-    let found = c.mark in
-    (omega arith, search_stop turn.loop-i.invariant turn.loop-i-test.true found.ensures c.if-not-mark.true)
+returns-then-not-mark c = let found = c.mark in
+    (omega arith, search_stop c.loop-i.invariant c.loop-i-test.true found.ensures c.if-not-mark.true)
 
 pub loop-i-preserved : goal.loop-i-preserved
-loop-i-preserved c = let turn = c in
-    let found = c.mark in
-    search_next turn.loop-i.invariant turn.loop-i-test.true found.ensures c.if-not-mark.false
+loop-i-preserved c = let found = c.mark in
+    search_next c.loop-i.invariant c.loop-i-test.true found.ensures c.if-not-mark.false
 
 pub returns : goal.returns
 returns c = (omega (arith, c.loop-i.invariant.within), search_end c.loop-i.invariant c.loop-i-test.false)

@@ -1,4 +1,4 @@
--- `runs::field_width` meets its contract: the bits that a number needs, from its leading zeros (`needed-leading`).
+-- `runs::field_width` meets its contract: the bits that a number needs, from its leading zeros (`needed_leading`).
 use native.Mathlib.Omega.{arith}
 use Prim.Native.Nat.{◌-◌, ◌*◌}
 use lib.Count.{leading_le}

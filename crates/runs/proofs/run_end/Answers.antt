@@ -1,4 +1,4 @@
--- `runs::run_end` meets its contract: entries of one width go up to half of what the width holds (`run-to`).
+-- `runs::run_end` meets its contract: entries of one width go up to half of what the width holds (`run_to`).
 use native.Mathlib.Omega.{arith}
 use mathlib.Core.Path.{◌∙◌}
 use Prim.Native.Nat.{◌≤◌}

@@ -1,5 +1,4 @@
 use native.Mathlib.Omega.{arith}
-use borrow.Author.Rules.{rules}
 use Rattle.text_writer.proofs.Nodes.{root_room, end_room, text_stands}
 use Rattle.text_writer.proofs.write_text.Goals as goal
 

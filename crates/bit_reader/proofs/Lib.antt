@@ -1,4 +1,0 @@
-mod Thin
-pub mod Position
-pub mod NextCall
-pub mod Start

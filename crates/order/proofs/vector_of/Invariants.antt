@@ -1,0 +1,9 @@
+-- `vector_of` meets its contract. The invariant: the chains of all keys from k on have their entries.
+use Rattle.order.specs.Vector.{Filled}
+use Rattle.order.proofs.vector_of.Given as goal
+
+abbrev pub invariant-loop-k : goal.invariant-loop-k
+invariant-loop-k l = Filled l.n l.small l.next l.last l.initial.out l.blocks l.names l.out l.keys l.k
+
+abbrev pub decreases-loop-k : goal.decreases-loop-k
+decreases-loop-k l = l.k

@@ -1,0 +1,4 @@
+pub mod Samples
+pub mod ArchiveSamples
+pub mod CladeSamples
+pub mod TextSamples

@@ -1,0 +1,39 @@
+-- `shuffled` meets its contract: new labels and vector are built in local arrays and copied out.
+use mathlib.Core.Path.{refl}
+use lib.ListN.{length-take}
+use native.Mathlib.Omega.{arith}
+use Rattle.renaming.specs.VectorRows.{RowsOf, rows_of}
+use Rattle.shuffling.specs.NewLabels.{NewLabels, rows_tabled, new_labels, labels_copied, vector_copied}
+use Rattle.shuffling.proofs.shuffled.Goals as goal
+
+pub queue-requires : goal.queue-requires
+queue-requires c =
+    let rows : RowsOf c.args.v.now c.rows_of.new.left c.rows_of.new.right =
+    rows_of _ _ _ _ _ c.requires.0.valid (omega arith) (omega arith) c.requires.0.few c.rows_of.ensures.left_after c.rows_of.ensures.right_after in
+    let P = c.requires in
+    (record { small = P.0.few; lefts = rows.lefts; rights = rows.rights; nodes_room = refl; labels_room = refl; room = omega (arith, P.0.few) }, rows_tabled rows)
+
+pub slice_bounds-rename_rows-end : goal.slice_bounds-rename_rows-end
+slice_bounds-rename_rows-end c = simp length-take (omega arith)
+
+pub rename_rows-requires : goal.rename_rows-requires
+rename_rows-requires c =
+    let rows : RowsOf c.args.v.now c.rows_of.new.left c.rows_of.new.right =
+    rows_of _ _ _ _ _ c.requires.0.valid (omega arith) (omega arith) c.requires.0.few c.rows_of.ensures.left_after c.rows_of.ensures.right_after in
+    let labels : NewLabels c.args.v.now c.queue.new.new =
+    new_labels _ _ rows c.queue.ensures in
+    let P = c.requires in
+    let N = labels in record { rows_of = (rows, P.0.few, omega (arith, P.0.few)); p_len = (N.count, N.no_fault) }
+
+pub copy_numbers-requires-2 : goal.copy_numbers-requires-2
+copy_numbers-requires-2 c = let P = c.requires in
+    let kept = c.rename_rows.auto in
+    (omega (arith, P.0.few), P.2)
+
+pub returns : goal.returns
+returns c =
+    let rows : RowsOf c.args.v.now c.rows_of.new.left c.rows_of.new.right =
+    rows_of _ _ _ _ _ c.requires.0.valid (omega arith) (omega arith) c.requires.0.few c.rows_of.ensures.left_after c.rows_of.ensures.right_after in
+    let labels : NewLabels c.args.v.now c.queue.new.new =
+    new_labels _ _ rows c.queue.ensures in
+    let N = labels in record { after = labels_copied _ N c.copy_numbers.ensures; vector_after = vector_copied _ _ rows.valid N c.rename_rows.ensures c.copy_numbers-2.ensures }

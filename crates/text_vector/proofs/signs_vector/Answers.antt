@@ -1,0 +1,67 @@
+use Rattle.std.proofs.Common.{ℕ, ◌≤◌, List, length, sym, rules, replicate}
+use Rattle.std.proofs.lemmas.List.{length-replicate}
+use Rattle.blanks.specs.Kept.{kept}
+use Rattle.text_laws.specs.Cells.{replicate_all_zero}
+use Rattle.text_laws.specs.Answers.{TextTook}
+use Rattle.text_signs.specs.Keeping.{SignsKept}
+use Rattle.text_vector.specs.Gives.{Taken, kept_in_front, broken_at, some_labels, array_kept, too_many, label_found, some_fault, table_read, vector_held}
+use Rattle.text_vector.proofs.signs_vector.Goals as goal
+
+-- the kept signs are read, and have so many labels
+taken : {s signs : List ℕ} {count : ℕ} {m : List ℕ} {n : ℕ}
+    → SignsKept s signs count
+    → length s ≤ 65536
+    → TextTook (kept s) (replicate 2576 0) m n
+    → Taken s (replicate 2576 0) m n
+taken K long took = record { short = (long, K.few); took = took; room = length-replicate {A = ℕ} 2576 0; zeros = replicate_all_zero 2576 }
+
+pub read_text-requires : goal.read_text-requires
+read_text-requires c = ((_, kept_in_front c.requires.0), length-replicate {A = ℕ} 2576 0)
+
+pub returns-then-n-gt1024 : goal.returns-then-n-gt1024
+returns-then-n-gt1024 c =
+    let T = taken c.requires.0 c.requires.1 (c.in-Leaves.ensures (kept c.args.s.now) (kept_in_front c.requires.0)) in
+    too_many T c.if-n-gt1024.true
+
+pub slice_bounds-each_once-end : goal.slice_bounds-each_once-end
+slice_bounds-each_once-end c =
+    let T = taken c.requires.0 c.requires.1 (c.in-Leaves.ensures (kept c.args.s.now) (kept_in_front c.requires.0)) in
+    sym (array_kept T)
+
+pub each_once-requires : goal.each_once-requires
+each_once-requires c =
+    let T = taken c.requires.0 c.requires.1 (c.in-Leaves.ensures (kept c.args.s.now) (kept_in_front c.requires.0)) in
+    (c.if-n-gt1024.false, array_kept T)
+
+pub first_fault-requires : goal.first_fault-requires
+first_fault-requires c =
+    let T = taken c.requires.0 c.requires.1 (c.in-Leaves.ensures (kept c.args.s.now) (kept_in_front c.requires.0)) in
+    let few = c.if-n-gt1024.false in
+    (few, some_fault T few (rw c.if-not-each_once.true at c.each_once.ensures))
+
+pub returns-then-not-each_once : goal.returns-then-not-each_once
+returns-then-not-each_once c =
+    let T = taken c.requires.0 c.requires.1 (c.in-Leaves.ensures (kept c.args.s.now) (kept_in_front c.requires.0)) in
+    label_found T c.if-n-gt1024.false _ c.first_fault.ensures
+
+pub slice_bounds-pairs_vector-end : goal.slice_bounds-pairs_vector-end
+slice_bounds-pairs_vector-end c =
+    let T = taken c.requires.0 c.requires.1 (c.in-Leaves.ensures (kept c.args.s.now) (kept_in_front c.requires.0)) in
+    sym (array_kept T)
+
+pub pairs_vector-requires : goal.pairs_vector-requires
+pairs_vector-requires c =
+    let T = taken c.requires.0 c.requires.1 (c.in-Leaves.ensures (kept c.args.s.now) (kept_in_front c.requires.0)) in
+    let few = c.if-n-gt1024.false in
+    let each = rw c.if-not-each_once.false at c.each_once.ensures in
+    record { le_n = (some_labels T, few, array_kept T, search rules); table_of = (_, table_read T few each) }
+
+pub returns-in-Broken : goal.returns-in-Broken
+returns-in-Broken c = broken_at _ c.place_of.ensures (c.requires.1, c.requires.0.few) (c.in-Broken.ensures (kept c.args.s.now) (kept_in_front c.requires.0))
+
+pub returns-else-not-each_once : goal.returns-else-not-each_once
+returns-else-not-each_once c =
+    let T = taken c.requires.0 c.requires.1 (c.in-Leaves.ensures (kept c.args.s.now) (kept_in_front c.requires.0)) in
+    let few = c.if-n-gt1024.false in
+    let each = rw c.if-not-each_once.false at c.each_once.ensures in
+    vector_held T few each _ _ (c.pairs_vector.ensures _ (table_read T few each))
