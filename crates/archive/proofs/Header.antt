@@ -7,8 +7,9 @@ use native.Mathlib.Nat.{mul-le-mul}
 use native.Mathlib.Omega.{arith}
 use lib.ListN.{length, get_or}
 use Rattle.rules.specs.Archive.{trees_in, field_bits, bare_length}
-use Rattle.record_laws.specs.Width.{total_most}
-use Rattle.record_laws.specs.Window.{value_at, word_at, value_word}
+use Rattle.record_laws.proofs.Width.{total_most}
+use Rattle.record_laws.specs.Window.{value_at, word_at}
+use Rattle.record_laws.proofs.Window.{value_word}
 
 -- the low 21 bits of the word
 pub trees_word : (s : List ℕ) → ((i : ℕ) → get_or s i 0 < 256) → 4 ≤ length s → word_at 4 s 0 % 2097152 ≡ trees_in s

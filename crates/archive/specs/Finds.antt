@@ -6,7 +6,8 @@ use Rattle.std.proofs.Common.{sym, ap, ap₂, subst, ◌∙◌, length-take, len
 use native.Mathlib.Omega.{arith}
 use Rattle.rules.specs.Record.{leaf_count}
 use Rattle.rules.specs.Archive.{trees_in, bare_length, implied_length, record_at}
-use Rattle.archive_laws.specs.Framed.{leafless, crowded, unfit, absent, record_ends}
+use Rattle.archive_laws.specs.Framed.{leafless, crowded, unfit, absent}
+use Rattle.archive_laws.proofs.Framed.{record_ends}
 use Rattle.archive_laws.specs.Reader.{HasTree, NoTree as Refused}
 use Rattle.rules.specs.declared.Part.{Part}
 use Rattle.archive.specs.declared.Found.{Found}

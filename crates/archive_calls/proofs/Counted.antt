@@ -7,7 +7,7 @@ use native.Mathlib.Nat.{suc-mul, div-mul-le_self}
 use native.Mathlib.Omega.{arith}
 use lib.ListN.{length}
 use Rattle.rules.specs.CallWriteArchive.{most_trees}
-use Rattle.archive_laws.specs.Writer.{few_trees}
+use Rattle.archive_laws.proofs.Writer.{few_trees}
 
 pub record Counted (n : ℕ) (xs : List ℕ) : Type 0 where
   pub some_leaf : 1 ≤ n

@@ -6,8 +6,9 @@ use Rattle.std.proofs.Common.{ap, ◌∙◌, arith}
 use Rattle.std.proofs.Math.Option.{Option, none, some, get_or, some-injective, none-ne-some}
 use Rattle.rules.specs.Vector.{fault}
 use Rattle.rules.specs.CallWriteArchive.{cut, fault_at, fault_in}
-use Rattle.basics.specs.Fault.{fault_inside}
-use Rattle.archive_laws.specs.Cut.{Left, left_start, left_none, left_some, next_inside, next_size, next_cut, next_left}
+use Rattle.basics.proofs.Fault.{fault_inside}
+use Rattle.archive_laws.specs.Cut.{Left}
+use Rattle.archive_laws.proofs.Cut.{left_start, left_none, left_some, next_inside, next_size, next_cut, next_left}
 use Rattle.vector.specs.Fault.{first_fault, first_fault_none, first_fault_some}
 
 -- the index of the first entry above its bound, and the list's length where there is none; each vector has n entries

@@ -20,7 +20,6 @@
 --     write_too_many, write_in_parts (next-multiple), write_above; else write_accepted.
 pub mod Framed
 pub mod Bare
-pub mod Header
 pub mod Reader
 pub mod Local
 pub mod Written

@@ -3,7 +3,8 @@
 use Rattle.std.specs.Prelude.{◌≡◌, List, ℕ, ◌+◌, ◌≤◌, length}
 use Rattle.std.proofs.Common.{sym, ap, ◌∙◌, arith}
 use Rattle.rules.specs.CallView.{part_of}
-use Rattle.archive_laws.specs.Reader.{NoTree, part_inside, part_refused}
+use Rattle.archive_laws.specs.Reader.{NoTree}
+use Rattle.archive_laws.proofs.Reader.{part_inside, part_refused}
 use Rattle.rules.specs.declared.Part.{Part}
 use Rattle.archive.specs.Finds.{IsRecord, part_start, part_length, part_ends}
 

@@ -8,7 +8,7 @@ use lib.ListN.{take, replicate}
 use lib.Seq.{take-take}
 use Rattle.rules.specs.Record.{field}
 use Rattle.rules.specs.Archive.{header}
-use Rattle.record_laws.specs.Bytes.{bytes_take}
+use Rattle.record_laws.proofs.Bytes.{bytes_take}
 use Rattle.bit_writer.specs.Pending.{Held, Put, held_nothing}
 use Rattle.bit_writer.specs.declared.Pending.{Pending}
 

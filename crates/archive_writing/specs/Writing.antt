@@ -9,11 +9,12 @@ use Rattle.std.proofs.Math.Seq.{drop-length}
 use Rattle.rules.specs.Vector.{Vector}
 use Rattle.rules.specs.Archive.{header, bare_length, bare_record, bare_records, implied_length, archive_of}
 use Rattle.rules.specs.CallWriteArchive.{cut, fault_in, most_trees}
-use Rattle.archive_laws.specs.Bare.{length_bare}
-use Rattle.archive_laws.specs.Header.{length_header}
+use Rattle.archive_laws.proofs.Bare.{length_bare}
+use Rattle.archive_laws.proofs.Header.{length_header}
 use Rattle.archive_laws.specs.Written.{Trees}
-use Rattle.archive_laws.specs.Writer.{length_cut, cut_trees}
-use Rattle.archive_laws.specs.Cut.{Left, left_start, left_none, left_some, next_inside, next_size, next_cut, next_left}
+use Rattle.archive_laws.proofs.Writer.{length_cut, cut_trees}
+use Rattle.archive_laws.specs.Cut.{Left}
+use Rattle.archive_laws.proofs.Cut.{left_start, left_none, left_some, next_inside, next_size, next_cut, next_left}
 
 -- the list is valid vectors of n entries, not too many, and there is room for their archive
 pub record Writes (n : ℕ) (xs : List ℕ) (bytes room : ℕ) : Type 0 where

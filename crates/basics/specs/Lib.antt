@@ -1,8 +1,3 @@
-pub mod Bools
-pub mod Cases
-pub mod Fault
-pub mod Listed
 pub mod Sums
 pub mod Names
 pub mod Flagged
-pub mod Mapped

@@ -11,8 +11,10 @@ use lib.Seq.{drop-drop, drop-append-le, take-take, take-suc-set}
 use lib.Bits.{bit_or, or_shifted}
 use lib.Pow.{shl-shr, mod-pow-add, mod-mod-pow, high, low}
 use Rattle.rules.specs.Record.{Bits, field, number, bytes_of}
-use Rattle.record_laws.specs.Number.{AreBits, are_append, are_drop, are_field, length_field, number_lt, number_append, number_of_field}
-use Rattle.record_laws.specs.Bytes.{byte_at, bytes_snoc, bytes_prefix, bytes_take, word_byte}
+use Rattle.record_laws.specs.Number.{AreBits}
+use Rattle.record_laws.proofs.Number.{are_append, are_drop, are_field, length_field, number_lt, number_append, number_of_field}
+use Rattle.record_laws.specs.Bytes.{byte_at}
+use Rattle.record_laws.proofs.Bytes.{bytes_snoc, bytes_prefix, bytes_take, word_byte}
 use Rattle.bit_writer.specs.Pending.{HoldsBits, word_stored}
 
 -- the low bits of a shifted word are those of the word, shifted

@@ -7,7 +7,8 @@ use native.Mathlib.Nat.{div-one}
 use native.Mathlib.Omega.{arith}
 use lib.ListN.{length, get_or, set}
 use lib.Pow.{shr-shr}
-use Rattle.record_laws.specs.Window.{value_at, word_at, value_word}
+use Rattle.record_laws.specs.Window.{value_at, word_at}
+use Rattle.record_laws.proofs.Window.{value_word}
 use Rattle.bits.specs.Fields.{field_read, four_read}
 
 module _ (s : List ℕ) (at w : ℕ) (b : (i : ℕ) → get_or s i 0 < 256) (l : at / 8 + 8 ≤ length s) (f : w ≤ 14) where

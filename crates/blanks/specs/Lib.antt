@@ -3,6 +3,4 @@ pub mod Kept
 pub mod Places
 pub mod Plain
 pub mod Cut
-pub mod Breaks
 pub mod Labels
-pub mod FromText

@@ -1,4 +1,4 @@
-// The C interface: one exported function a call. include/blathersike.h documents each.
+// The C interface: one function a call. capi_c exports each under its own name. include/blathersike.h documents each.
 #![tactic(auto)]
 
 ghost use Rattle.std.specs.Prelude.{[], ◌∷◌, ◌≡◌};
@@ -36,24 +36,21 @@ fn hand_back(given: Answer, back: &mut [u64; 2])
 }
 
 // Whether v is a vector.
-#[unsafe(no_mangle)]
-pub extern "C" fn blathersike_check(v: &[u16], back: &mut [u64; 2])
+pub fn blathersike_check(v: &[u16], back: &mut [u64; 2])
     ensures { Hands (check_call v.now) tt back.new tt }
 {
     hand_back(trees::check(v), back);
 }
 
 // Vector to merge table.
-#[unsafe(no_mangle)]
-pub extern "C" fn blathersike_to_table(v: &[u16], out: &mut [u16], back: &mut [u64; 2])
+pub fn blathersike_to_table(v: &[u16], out: &mut [u16], back: &mut [u64; 2])
     ensures { Hands (to_table_call v.now) out.old back.new out.new }
 {
     hand_back(trees::to_table(v, out), back);
 }
 
 // Merge table to vector.
-#[unsafe(no_mangle)]
-pub extern "C" fn blathersike_from_table(
+pub fn blathersike_from_table(
     leaves: usize,
     rows: &[u16],
     out: &mut [u16],
@@ -65,40 +62,35 @@ pub extern "C" fn blathersike_from_table(
 }
 
 // Vector to Newick text.
-#[unsafe(no_mangle)]
-pub extern "C" fn blathersike_to_newick(v: &[u16], out: &mut [u8], back: &mut [u64; 2])
+pub fn blathersike_to_newick(v: &[u16], out: &mut [u8], back: &mut [u64; 2])
     ensures { Hands (to_newick_call v.now) out.old back.new out.new }
 {
     hand_back(trees::to_newick(v, out), back);
 }
 
 // Newick text to vector.
-#[unsafe(no_mangle)]
-pub extern "C" fn blathersike_from_newick(text: &[u8], out: &mut [u16], back: &mut [u64; 2])
+pub fn blathersike_from_newick(text: &[u8], out: &mut [u16], back: &mut [u64; 2])
     ensures { Hands (from_newick_call text.now) out.old back.new out.new }
 {
     hand_back(trees::from_newick(text, out), back);
 }
 
 // Vector to packed record.
-#[unsafe(no_mangle)]
-pub extern "C" fn blathersike_pack(v: &[u16], out: &mut [u8], back: &mut [u64; 2])
+pub fn blathersike_pack(v: &[u16], out: &mut [u8], back: &mut [u64; 2])
     ensures { Hands (pack_call v.now) out.old back.new out.new }
 {
     hand_back(trees::pack(v, out), back);
 }
 
 // Packed record to vector.
-#[unsafe(no_mangle)]
-pub extern "C" fn blathersike_unpack(s: &[u8], out: &mut [u16], back: &mut [u64; 2])
+pub fn blathersike_unpack(s: &[u8], out: &mut [u16], back: &mut [u64; 2])
     ensures { Hands (unpack_call s.now) out.old back.new out.new }
 {
     hand_back(trees::unpack(s, out), back);
 }
 
 // Queue Shuffle.
-#[unsafe(no_mangle)]
-pub extern "C" fn blathersike_shuffle(
+pub fn blathersike_shuffle(
     v: &[u16],
     new: &mut [u16],
     out: &mut [u16],
@@ -110,16 +102,14 @@ pub extern "C" fn blathersike_shuffle(
 }
 
 // The vector of the tree with leaf x relabelled p(x).
-#[unsafe(no_mangle)]
-pub extern "C" fn blathersike_relabel(v: &[u16], p: &[u16], out: &mut [u16], back: &mut [u64; 2])
+pub fn blathersike_relabel(v: &[u16], p: &[u16], out: &mut [u16], back: &mut [u64; 2])
     ensures { Hands (relabel_call v.now p.now) out.old back.new out.new }
 {
     hand_back(trees::relabel(v, p, out), back);
 }
 
 // Vectors of one run to an archive.
-#[unsafe(no_mangle)]
-pub extern "C" fn blathersike_write_archive(
+pub fn blathersike_write_archive(
     leaves: usize,
     entries: &[u16],
     out: &mut [u8],
@@ -131,8 +121,7 @@ pub extern "C" fn blathersike_write_archive(
 }
 
 // A tree of an archive to its vector.
-#[unsafe(no_mangle)]
-pub extern "C" fn blathersike_read_tree(
+pub fn blathersike_read_tree(
     archive: &[u8],
     tree: usize,
     out: &mut [u16],
@@ -144,8 +133,7 @@ pub extern "C" fn blathersike_read_tree(
 }
 
 // The part of an archive that is the record of a tree: where it starts, and how many bytes it has.
-#[unsafe(no_mangle)]
-pub extern "C" fn blathersike_view(archive: &[u8], tree: usize, part: &mut [u64; 2])
+pub fn blathersike_view(archive: &[u8], tree: usize, part: &mut [u64; 2])
     ensures { part.new ≡ (part_of archive.now tree).0 ∷ (part_of archive.now tree).1 ∷ [] }
 {
     let found = trees::part(archive, tree);
@@ -153,8 +141,7 @@ pub extern "C" fn blathersike_view(archive: &[u8], tree: usize, part: &mut [u64;
 }
 
 // The clade table of an archive.
-#[unsafe(no_mangle)]
-pub extern "C" fn blathersike_clade_table(archive: &[u8], out: &mut [Clade], back: &mut [u64; 2])
+pub fn blathersike_clade_table(archive: &[u8], out: &mut [Clade], back: &mut [u64; 2])
     ensures { Hands (clade_table_call archive.now) out.old back.new out.new }
 {
     hand_back(trees::clade_table(archive, out), back);

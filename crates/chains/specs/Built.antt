@@ -9,13 +9,16 @@ use Rattle.std.proofs.Math.Seq.{get_or-set_same}
 use Rattle.std.proofs.lemmas.Bool.{eqb-false}
 use Rattle.rules.specs.Tree.{Tree, leaf, node, has, least, Distinct, Clusters}
 use Rattle.rules.specs.Table.{Row, nodes_of, table_tree}
-use Rattle.basics.specs.Bools.{or_false}
-use Rattle.clades.specs.Leaves.{has_left, has_right, has_cases, least_has, least_apart}
+use Rattle.basics.proofs.Bools.{or_false}
+use Rattle.clades.proofs.Leaves.{has_left, has_right, has_cases, least_has, least_apart}
 use Rattle.written_tables.specs.Nodes.{noded}
-use Rattle.read_tables.specs.Larger.{Pair, lesser, top_has, pair_has, pair_above, top_left, top_right}
-use Rattle.read_tables.specs.Count.{last_or_before, count_pos, count_without}
-use Rattle.read_tables.specs.Forest.{named_also, named_in, RowOk, Forest, forest_start, forest_next, forest_end, named_snoc, nodes_snoc, named_no}
-use Rattle.read_tables.specs.Chains.{lowest, chain, Smaller, In, Bounded, in_left, chain_own, chain_other, chain_in, lowest_starts}
+use Rattle.read_tables.specs.Larger.{Pair}
+use Rattle.read_tables.proofs.Larger.{lesser, top_has, pair_has, pair_above, top_left, top_right}
+use Rattle.read_tables.proofs.Count.{last_or_before, count_pos, count_without}
+use Rattle.read_tables.specs.Forest.{named_also, named_in, RowOk, Forest}
+use Rattle.read_tables.proofs.Forest.{forest_start, forest_next, forest_end, named_snoc, nodes_snoc, named_no}
+use Rattle.read_tables.specs.Chains.{lowest, chain, Smaller, In, Bounded}
+use Rattle.read_tables.proofs.Chains.{in_left, chain_own, chain_other, chain_in, lowest_starts}
 use Rattle.chains.specs.Key.{no_key}
 use Rattle.chains.specs.Walk.{cell, ChainIs, last_cases, chain_kept, chain_more}
 use Rattle.chains.specs.Chain.{one_chain, smaller_cong, chain_of_left, chain_of_right}

@@ -7,9 +7,11 @@ use Rattle.std.proofs.Math.Logic.{⊎_elim}
 use mathlib.Core.List.{List, [], ◌∷◌, ◌++◌, append-nil}
 use Rattle.std.proofs.lemmas.Bool.{eqb-false}
 use Rattle.rules.specs.Tree.{Tree, leaf, node, has, least, size, Distinct}
-use Rattle.clades.specs.Leaves.{least_apart}
-use Rattle.read_tables.specs.Larger.{Pair, pair_has, pair_apart, top_left, top_right}
-use Rattle.read_tables.specs.Chains.{lowest, chain, falling, Smaller, In, Bounded, bounded_left, bounded_right, in_cases, chain_own, chain_other, chain_in, chain_none}
+use Rattle.clades.proofs.Leaves.{least_apart}
+use Rattle.read_tables.specs.Larger.{Pair}
+use Rattle.read_tables.proofs.Larger.{pair_has, pair_apart, top_left, top_right}
+use Rattle.read_tables.specs.Chains.{lowest, chain, falling, Smaller, In, Bounded}
+use Rattle.read_tables.proofs.Chains.{bounded_left, bounded_right, in_cases, chain_own, chain_other, chain_in, chain_none}
 
 -- a tree has fewer pairs than leaves
 pub chain_short : (m : ℕ) (t : Tree) (k : ℕ) → length (chain m t k) < size t

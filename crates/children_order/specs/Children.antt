@@ -6,7 +6,8 @@ use Rattle.std.proofs.Common.{sym, ap, ◌∙◌, subst, add-one, arith, length-
 use Rattle.std.proofs.Math.Option.{none}
 use Rattle.rules.specs.Tree.{Tree}
 use Rattle.rules.specs.Table.{Row, row_fault, table_fault, table_tree}
-use Rattle.read_tables.specs.Forest.{RowOk, fault_append, fault_none, fault_step}
+use Rattle.read_tables.specs.Forest.{RowOk}
+use Rattle.read_tables.proofs.Forest.{fault_append, fault_none, fault_step}
 use Rattle.chains.specs.Walk.{cell}
 use Rattle.chains.specs.Built.{taken, Built, Adds, built_end}
 use Rattle.chains.specs.Drawn.{Drawn}

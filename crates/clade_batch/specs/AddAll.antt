@@ -9,8 +9,8 @@ use Rattle.rules.specs.declared.Clade.{Clade as Entry}
 use Rattle.clade_laws.specs.Rising.{From}
 use Rattle.clade_laws.specs.Entries.{Each, leaves_of}
 use Rattle.clade_passes.specs.Collected.{add_entry, collected}
-use Rattle.clade_passes.specs.Archive.{each_mapped, collected_append}
-use Rattle.clade_passes.specs.Bounds.{collected_rises, collected_length, collected_counts}
+use Rattle.clade_passes.proofs.Archive.{each_mapped, collected_append}
+use Rattle.clade_passes.proofs.Bounds.{collected_rises, collected_length, collected_counts}
 use Rattle.clade_batch.specs.Held.{most, held_in, Batch, held_length}
 
 -- a batch that has room for many more of each clade

@@ -8,7 +8,7 @@ use native.Mathlib.Omega.{arith}
 use Rattle.std.proofs.Math.ListN.{length, get_or, drop, length-append, length-drop, get_or-append}
 use Rattle.std.proofs.Math.Seq.{get_or-set_same, get_or-set_other, get_or-take, get_or-drop, length-take-le, get_or_at, get_or-append-add}
 use Rattle.rules.specs.declared.Clade.{Clade as Entry}
-use Rattle.basics.specs.Cases.{by_lt, by_eq}
+use Rattle.basics.proofs.Cases.{by_lt, by_eq}
 use Rattle.clade_passes.specs.Collected.{new_entry, one_more, add_entry}
 use Rattle.clade_batch.specs.Held.{most, entry_at, held_in, none, Batch, held_length, held_at, held_is}
 use Rattle.clade_batch.specs.Place.{Place, stands_at, stands, stands_not}

@@ -2,7 +2,7 @@
 -- Main definition: Moved. Main results: moved_start, moved_next.
 use Rattle.std.specs.Prelude.{◌≡◌, refl, List, ℕ, ◌+◌, ◌-◌, ◌*◌, ◌≤◌, ◌<◌, length, get_or, set}
 use Rattle.std.proofs.Common.{ap, ◌∙◌, arith, length-set, get_or-set_same, get_or-set_other}
-use Rattle.basics.specs.Cases.{by_eq}
+use Rattle.basics.proofs.Cases.{by_eq}
 
 -- of the first n clades those from place p on stand one place further; what is at p itself stays there too
 pub record Moved (old : List ℕ) (n p : ℕ) (new : List ℕ) : Type 0 where

@@ -4,7 +4,7 @@ use Rattle.std.specs.Prelude.{◌≡◌, refl, Bool, true, false, cond, List, []
 use Rattle.std.proofs.Common.{sym, ap, ◌∙◌, subst, true≢false, arith, ltb-true, eqb-true, lt-ltb}
 use Rattle.std.proofs.lemmas.Bool.{eqb-false}
 use Rattle.rules.specs.declared.Clade.{Clade as Entry}
-use Rattle.basics.specs.Cases.{by_lt}
+use Rattle.basics.proofs.Cases.{by_lt}
 use Rattle.clade_laws.specs.Rising.{From}
 use Rattle.clade_laws.specs.Entries.{leaves_of}
 use Rattle.clade_batch.specs.Held.{entry_at, held_in, none, held_length, held_at}

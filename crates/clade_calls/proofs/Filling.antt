@@ -18,9 +18,10 @@ use Rattle.rules.specs.declared.Clade.{Clade}
 use Rattle.rules.specs.CallCladeTable.{clade_table_call}
 use Rattle.rules.specs.Promise.{Keeps, answers, holds}
 use Rattle.clade_laws.specs.Entries.{Each}
-use Rattle.clade_passes.specs.Archive.{vectors_made}
-use Rattle.clade_passes.specs.Batches.{batch_at, batch_entry}
-use Rattle.clade_passes.specs.Bounds.{trees_counts}
+use Rattle.clade_passes.proofs.Archive.{vectors_made}
+use Rattle.clade_passes.specs.Batches.{batch_at}
+use Rattle.clade_passes.proofs.Batches.{batch_entry}
+use Rattle.clade_passes.proofs.Bounds.{trees_counts}
 use Rattle.clade_batch.specs.Held.{most, entry_at, held_in, none, held_length, held_at}
 use Rattle.clade_entries.specs.Table.{table_of_lem}
 use Rattle.clade_calls.specs.Checked.{table, Tabled, NoTable, of_archive, of_room, Checked, stopped, fits, table_made}

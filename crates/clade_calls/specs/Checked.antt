@@ -14,12 +14,14 @@ use Rattle.rules.specs.CladeTable.{clade_table, trees_of}
 use Rattle.rules.specs.CallCladeTable.{following, record_in, vectors_in, table_in, table_of_archive}
 use Rattle.rules.specs.CallReadTree.{read_tree, read_tree_call}
 use Rattle.rules.specs.Promise.{Keeps, answers}
-use Rattle.basics.specs.Cases.{by_lt}
-use Rattle.accepting.specs.Guards as guards
-use Rattle.accepting.specs.Guards.{some_leaves, wrong_length, right_length, refuse_if_lem, pass_if}
-use Rattle.archive_laws.specs.Reader.{HasTree, reader_inside}
-use Rattle.clade_passes.specs.Archive.{vectors_refused}
-use Rattle.clade_passes.specs.Batches.{batch_at, last_batch}
+use Rattle.basics.proofs.Cases.{by_lt}
+use Rattle.accepting.proofs.Guards as guards
+use Rattle.accepting.proofs.Guards.{some_leaves, wrong_length, right_length, refuse_if_lem, pass_if}
+use Rattle.archive_laws.specs.Reader.{HasTree}
+use Rattle.archive_laws.proofs.Reader.{reader_inside}
+use Rattle.clade_passes.proofs.Archive.{vectors_refused}
+use Rattle.clade_passes.specs.Batches.{batch_at}
+use Rattle.clade_passes.proofs.Batches.{last_batch}
 use Rattle.clade_batch.specs.Held.{most, held_in, held_length}
 use Rattle.clade_pass.specs.Pass.{Given, Passed}
 use Rattle.clade_entries.specs.Table.{Readable, table_of, table_of_lem, table_first, table_fits, passed_all, all_read}

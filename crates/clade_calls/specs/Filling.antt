@@ -7,7 +7,7 @@ use Rattle.rules.specs.declared.Clade.{Clade as Entry}
 use Rattle.rules.specs.Record.{leaf_count}
 use Rattle.rules.specs.Archive.{trees_in, implied_length}
 use Rattle.rules.specs.Answer.{Outcome, done, refused}
-use Rattle.basics.specs.Cases.{by_lt}
+use Rattle.basics.proofs.Cases.{by_lt}
 use Rattle.clade_passes.specs.Batches.{batch_at}
 use Rattle.clade_batch.specs.Held.{most, held_in, held_length}
 use Rattle.clade_pass.specs.Pass.{Given}

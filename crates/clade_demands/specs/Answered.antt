@@ -13,11 +13,12 @@ use Rattle.rules.specs.Archive.{trees_in}
 use Rattle.rules.specs.Answer.{done, refused, reads, made}
 use Rattle.rules.specs.CladeTable.{trees_of}
 use Rattle.rules.specs.CallCladeTable.{vectors_in, table_of_archive}
-use Rattle.basics.specs.Bools.{both}
-use Rattle.clade_laws.specs.Rising.{Rises, from_unique}
+use Rattle.basics.proofs.Bools.{both}
+use Rattle.clade_laws.specs.Rising.{Rises}
+use Rattle.clade_laws.proofs.Rising.{from_unique}
 use Rattle.clade_laws.specs.Entries.{leaves_of}
 use Rattle.clade_laws.specs.Totals.{Reordered}
-use Rattle.clade_passes.specs.NoBytes.{vectors_of_one, one_leaf_table, no_trees_table}
+use Rattle.clade_passes.proofs.NoBytes.{vectors_of_one, one_leaf_table, no_trees_table}
 use Rattle.demands.specs.Law.{made_accepted, done_made, done_written}
 use Rattle.demands.specs.LawReadTree.{Whole}
 use Rattle.demands.specs.LawCladeTable.{CladesRefused, FewLeaves, table_length, table_of_vectors}

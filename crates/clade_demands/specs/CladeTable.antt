@@ -15,17 +15,19 @@ use Rattle.rules.specs.Answer.{Making, made, refuses}
 use Rattle.rules.specs.CladeTable.{occurs, trees_of, clade_table}
 use Rattle.rules.specs.CallReadTree.{read_tree}
 use Rattle.rules.specs.CallCladeTable.{following, vectors_in, table_in, table_of_archive}
-use Rattle.accepting.specs.Answers.{made_same, made_not_refuses}
-use Rattle.accepting.specs.Guards.{passed_if, passed_count, passed_length}
-use Rattle.laws.specs.TreeOf.{tree_leaves}
-use Rattle.archive_laws.specs.Reader.{read_vector}
+use Rattle.accepting.proofs.Answers.{made_same, made_not_refuses}
+use Rattle.accepting.proofs.Guards.{passed_if, passed_count, passed_length}
+use Rattle.laws.proofs.TreeOf.{tree_leaves}
+use Rattle.archive_laws.proofs.Reader.{read_vector}
 use Rattle.clade_laws.specs.Numbers.{bit, Stands}
 use Rattle.clade_laws.specs.Rising.{From, Rises}
-use Rattle.clade_laws.specs.Entries.{Each, leaves_of, InSome, IsTable, each_member, table_is, table_rises, table_unique}
-use Rattle.clade_laws.specs.Totals.{sum_counts, counts_add_up, Reordered, reordered_table}
-use Rattle.clade_passes.specs.Merged.{trees_below}
-use Rattle.clade_passes.specs.Archive.{each_mapped, vectors_made}
-use Rattle.clade_passes.specs.Bounds.{trees_sets_bounds, trees_counts}
+use Rattle.clade_laws.specs.Entries.{Each, leaves_of, InSome, IsTable}
+use Rattle.clade_laws.proofs.Entries.{each_member, table_is, table_rises, table_unique}
+use Rattle.clade_laws.specs.Totals.{sum_counts, Reordered}
+use Rattle.clade_laws.proofs.Totals.{counts_add_up, reordered_table}
+use Rattle.clade_passes.proofs.Merged.{trees_below}
+use Rattle.clade_passes.proofs.Archive.{each_mapped, vectors_made}
+use Rattle.clade_passes.proofs.Bounds.{trees_sets_bounds, trees_counts}
 use Rattle.demands.specs.Conditions.{CountRight}
 use Rattle.demands.specs.LawReadTree.{Whole}
 use Rattle.demands.specs.LawCladeTable.{FewLeaves, tree_vectors, table_of_vectors}

@@ -9,14 +9,18 @@ use Rattle.rules.specs.Archive.{trees_in}
 use Rattle.rules.specs.Answer.{made}
 use Rattle.rules.specs.CladeTable.{inner, occurs, trees_of}
 use Rattle.rules.specs.CallReadTree.{read_tree}
-use Rattle.basics.specs.Cases.{by_lt}
-use Rattle.basics.specs.Sums.{one, sum_below, sum_cong}
-use Rattle.accepting.specs.Answers.{made_same}
-use Rattle.clades.specs.Leaves.{has_left, has_right}
-use Rattle.clades.specs.Size.{leaves_sum, size_sum}
-use Rattle.clade_laws.specs.Numbers.{bit, Stands, leaf_bit}
-use Rattle.clade_laws.specs.Inner.{CladeNumber, PairIn, inner_clades, inner_node}
-use Rattle.clade_laws.specs.Entries.{Each, InSome, occurs_some}
+use Rattle.basics.proofs.Cases.{by_lt}
+use Rattle.basics.specs.Sums.{one, sum_below}
+use Rattle.basics.proofs.Sums.{sum_cong}
+use Rattle.accepting.proofs.Answers.{made_same}
+use Rattle.clades.proofs.Leaves.{has_left, has_right}
+use Rattle.clades.proofs.Size.{leaves_sum, size_sum}
+use Rattle.clade_laws.specs.Numbers.{bit, Stands}
+use Rattle.clade_laws.proofs.Numbers.{leaf_bit}
+use Rattle.clade_laws.specs.Inner.{CladeNumber, PairIn}
+use Rattle.clade_laws.proofs.Inner.{inner_clades, inner_node}
+use Rattle.clade_laws.specs.Entries.{Each, InSome}
+use Rattle.clade_laws.proofs.Entries.{occurs_some}
 use Rattle.demands.specs.LawCladeTable.{lists_below}
 use Rattle.demands.specs.TreesRead.{AllRead, lists_again}
 

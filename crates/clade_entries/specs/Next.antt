@@ -5,7 +5,8 @@ use Rattle.std.proofs.Common.{sym, ◌∙◌, arith}
 use Rattle.std.proofs.Math.Path.{ap}
 use Rattle.std.proofs.Math.ListN.{length, length-take, length-drop}
 use Rattle.rules.specs.declared.Clade.{Clade as Entry}
-use Rattle.clade_passes.specs.Batches.{batch_at, next_batch, last_batch, full_batch}
+use Rattle.clade_passes.specs.Batches.{batch_at}
+use Rattle.clade_passes.proofs.Batches.{next_batch, last_batch, full_batch}
 use Rattle.clade_batch.specs.Held.{most, entry_at, held_in, none, held_length, held_at}
 use Rattle.clade_pass.specs.Pass.{Passed}
 use Rattle.clade_entries.specs.Table.{Readable, table_of, table_rises, table_few, passed_all}

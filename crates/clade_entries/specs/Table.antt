@@ -7,14 +7,17 @@ use Rattle.rules.specs.declared.Clade.{Clade as Entry}
 use Rattle.rules.specs.Answer.{Making, made, refuses}
 use Rattle.rules.specs.CladeTable.{clade_table, trees_of}
 use Rattle.rules.specs.CallCladeTable.{following, vectors_in}
-use Rattle.basics.specs.Cases.{by_lt}
-use Rattle.accepting.specs.Answers.{made_same, made_not_refuses}
+use Rattle.basics.proofs.Cases.{by_lt}
+use Rattle.accepting.proofs.Answers.{made_same, made_not_refuses}
 use Rattle.clade_laws.specs.Rising.{From}
-use Rattle.clade_laws.specs.Entries.{leaves_of, table_is}
-use Rattle.clade_passes.specs.Passes.{batch, table_from}
-use Rattle.clade_passes.specs.Archive.{vectors_made, vectors_refused}
-use Rattle.clade_passes.specs.Batches.{batch_at, first_batch}
-use Rattle.clade_passes.specs.Bounds.{trees_table_length}
+use Rattle.clade_laws.specs.Entries.{leaves_of}
+use Rattle.clade_laws.proofs.Entries.{table_is}
+use Rattle.clade_passes.specs.Passes.{batch}
+use Rattle.clade_passes.proofs.Passes.{table_from}
+use Rattle.clade_passes.proofs.Archive.{vectors_made, vectors_refused}
+use Rattle.clade_passes.specs.Batches.{batch_at}
+use Rattle.clade_passes.proofs.Batches.{first_batch}
+use Rattle.clade_passes.proofs.Bounds.{trees_table_length}
 use Rattle.clade_batch.specs.Held.{most, held_in}
 use Rattle.clade_pass.specs.Pass.{Given, Passed}
 

@@ -13,7 +13,7 @@ use Rattle.rules.specs.Archive.{bare_length, implied_length, record_at, packed_a
 use Rattle.rules.specs.Answer.{made, refuses}
 use Rattle.rules.specs.CladeTable.{clade_table, trees_of}
 use Rattle.rules.specs.CallCladeTable.{record_in, vectors_in}
-use Rattle.archive_laws.specs.Framed.{record_ends}
+use Rattle.archive_laws.proofs.Framed.{record_ends}
 use Rattle.merges.specs.Room.{list_room}
 use Rattle.tree_reading.specs.Gives.{bare_made}
 use Rattle.clade_laws.specs.Rising.{From}
@@ -21,9 +21,10 @@ use Rattle.clade_laws.specs.Entries.{Each, leaves_of}
 use Rattle.clade_passes.specs.Passes.{above, batch}
 use Rattle.clade_passes.specs.Collected.{collected}
 use Rattle.clade_passes.specs.Merged.{vector_sets, archive_sets}
-use Rattle.clade_passes.specs.Archive.{each_mapped, vectors_made, vectors_next, collected_append, archive_sets_append, one_pass}
-use Rattle.clade_passes.specs.Bounds.{collected_rises, collected_length, collected_counts, length_archive_sets}
-use Rattle.clade_passes.specs.NoBytes.{vectors_of_one, one_leaf_table, vectors_of_two, both, two_leaves_table}
+use Rattle.clade_passes.proofs.Archive.{each_mapped, vectors_made, vectors_next, collected_append, archive_sets_append, one_pass}
+use Rattle.clade_passes.proofs.Bounds.{collected_rises, collected_length, collected_counts, length_archive_sets}
+use Rattle.clade_passes.specs.NoBytes.{both}
+use Rattle.clade_passes.proofs.NoBytes.{vectors_of_one, one_leaf_table, vectors_of_two, two_leaves_table}
 use Rattle.clade_batch.specs.Held.{most, held_one, held_in, held_length}
 use Rattle.clade_batch.specs.AddAll.{Roomy}
 use Rattle.clade_pass.specs.Tree.{TreeAdded}

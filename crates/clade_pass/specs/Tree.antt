@@ -9,7 +9,7 @@ use Rattle.rules.specs.Answer.{made, refuses}
 use Rattle.tree_reading.specs.Gives.{bare_made}
 use Rattle.clade_passes.specs.Collected.{collected}
 use Rattle.clade_passes.specs.Merged.{vector_sets}
-use Rattle.clade_passes.specs.Archive.{bits_vector}
+use Rattle.clade_passes.proofs.Archive.{bits_vector}
 use Rattle.clade_batch.specs.Held.{most, held_in}
 
 -- whether the bytes of a record without its n make a vector, which is then at the front of a list

@@ -16,6 +16,4 @@ pub mod Passes
 pub mod Batches
 pub mod Collected
 pub mod Merged
-pub mod Archive
 pub mod NoBytes
-pub mod Bounds

@@ -7,8 +7,9 @@ use Rattle.std.proofs.lemmas.Bool.{eqb-false}
 use Rattle.rules.specs.Vector.{entry, bound, fault}
 use Rattle.rules.specs.Answer.{Making, refuses}
 use Rattle.rules.specs.Guards.{refuse_count}
-use Rattle.searching.specs.First.{FirstFound, first_at, nowhere, found_first, found_none}
-use Rattle.accepting.specs.Guards.{no_leaf, many_leaves, some_leaves}
+use Rattle.searching.specs.First.{FirstFound, first_at, nowhere}
+use Rattle.searching.proofs.First.{found_first, found_none}
+use Rattle.accepting.proofs.Guards.{no_leaf, many_leaves, some_leaves}
 use Rattle.demands.specs.Conditions.{CountWrong, CountRight, Above, WithinBounds}
 use Rattle.rules.specs.First.{First}
 use Rattle.demands.specs.FirstPlace.{above_found}

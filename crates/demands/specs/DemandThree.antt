@@ -15,22 +15,23 @@ use Rattle.rules.specs.Answer.{Made, made, refuses}
 use Rattle.rules.specs.CallCheck.{check}
 use Rattle.rules.specs.CallFromTable.{from_table}
 use Rattle.rules.specs.CallFromNewick.{NotLong, FromText, too_long, too_many_signs, breaks, reads_as, from_labels}
-use Rattle.written_tables.specs.Flat.{rows_of_length}
-use Rattle.read_tables.specs.Forest.{rows_make_a_tree}
-use Rattle.read_tables.specs.Clades.{rows_clades}
-use Rattle.record_laws.specs.FromRecord.{only_accepted, unpacked_vector}
+use Rattle.written_tables.proofs.Flat.{rows_of_length}
+use Rattle.read_tables.proofs.Forest.{rows_make_a_tree}
+use Rattle.read_tables.proofs.Clades.{rows_clades}
+use Rattle.record_laws.proofs.FromRecord.{only_accepted, unpacked_vector}
 use Rattle.rules.specs.CallUnpack.{unpack}
-use Rattle.archive_laws.specs.AsPacked.{as_packed, then_padding, read_as_packed}
-use Rattle.archive_laws.specs.Reader as tree
-use Rattle.archive_laws.specs.Reader.{read_vector}
-use Rattle.blanks.specs.Breaks.{sent_unique}
-use Rattle.blanks.specs.Labels.{sent_labels}
-use Rattle.grammar.specs.Faults.{no_fault_leaves}
+use Rattle.archive_laws.specs.AsPacked.{as_packed, then_padding}
+use Rattle.archive_laws.proofs.AsPacked.{read_as_packed}
+use Rattle.archive_laws.proofs.Reader as tree
+use Rattle.archive_laws.proofs.Reader.{read_vector}
+use Rattle.blanks.proofs.Breaks.{sent_unique}
+use Rattle.blanks.proofs.Labels.{sent_labels}
+use Rattle.grammar.proofs.Faults.{no_fault_leaves}
 use Rattle.searching.specs.First.{first_at, nowhere}
-use Rattle.accepting.specs.Answers.{made_not_refuses}
-use Rattle.accepting.specs.Guards.{passed_if}
-use Rattle.accepting.specs.FromTable.{rows_accepted}
-use Rattle.laws.specs.OneToOne.{every_tree, same_clades_same_vector}
+use Rattle.accepting.proofs.Answers.{made_not_refuses}
+use Rattle.accepting.proofs.Guards.{passed_if}
+use Rattle.accepting.proofs.FromTable.{rows_accepted}
+use Rattle.laws.proofs.OneToOne.{every_tree, same_clades_same_vector}
 use Rattle.demands.specs.Conditions.{CountWrong, CountRight, label_place}
 use Rattle.demands.specs.FirstWrongRow.{RowFound, first_row, row_found}
 use Rattle.demands.specs.Cases.{count_cases, equal_cases}

@@ -24,20 +24,21 @@ use Rattle.rules.specs.CallUnpack.{unpack}
 use Rattle.rules.specs.CallWriteArchive.{write_archive}
 use Rattle.rules.specs.CallReadTree.{read_tree}
 use Rattle.rules.specs.CallView.{view}
-use Rattle.record_laws.specs.Inverse.{unpack_record}
-use Rattle.archive_laws.specs.Written as written
+use Rattle.record_laws.proofs.Inverse.{unpack_record}
+use Rattle.archive_laws.proofs.Written as written
 use Rattle.archive_laws.specs.Written.{Trees, joined}
 use Rattle.archive_laws.specs.Writer.{Run}
-use Rattle.archive_laws.specs.Again.{written_then_read}
-use Rattle.archive_laws.specs.AsPacked.{as_packed, packed_of_bare}
-use Rattle.clades.specs.Size.{size_some, size_below}
-use Rattle.blanks.specs.Breaks.{plain_sent}
-use Rattle.blanks.specs.Labels.{sent_labels}
-use Rattle.grammar.specs.Faults.{leaves_no_fault, leaves_count}
-use Rattle.grammar.specs.Length.{text_length_lem, text_length_most}
-use Rattle.laws.specs.TreeOf.{tree_leaves, vector_again}
-use Rattle.accepting.specs.FromTable.{rows_accepted}
-use Rattle.accepting.specs.FromVector.{vector_accepted}
+use Rattle.archive_laws.proofs.Again.{written_then_read}
+use Rattle.archive_laws.specs.AsPacked.{as_packed}
+use Rattle.archive_laws.proofs.AsPacked.{packed_of_bare}
+use Rattle.clades.proofs.Size.{size_some, size_below}
+use Rattle.blanks.proofs.Breaks.{plain_sent}
+use Rattle.blanks.proofs.Labels.{sent_labels}
+use Rattle.grammar.proofs.Faults.{leaves_no_fault, leaves_count}
+use Rattle.grammar.proofs.Length.{text_length_lem, text_length_most}
+use Rattle.laws.proofs.TreeOf.{tree_leaves, vector_again}
+use Rattle.accepting.proofs.FromTable.{rows_accepted}
+use Rattle.accepting.proofs.FromVector.{vector_accepted}
 -- Vector: the vectors that the demand is about
 pub use Rattle.rules.specs.Vector.{Vector}
 use Rattle.demands.specs.Conditions.{CountRight, WithinBounds}

@@ -12,8 +12,9 @@ use Rattle.rules.specs.Promise.{Keeps, makes, list, answers, holds, over}
 use Rattle.rules.specs.Archive.{implied_length}
 use Rattle.rules.specs.CallReadTree.{read_tree}
 use Rattle.rules.specs.CallView.{part_of, view}
-use Rattle.accepting.specs.Answers.{reads_unique}
-use Rattle.archive_laws.specs.Local.{Alike, read_local, part_local}
+use Rattle.accepting.proofs.Answers.{reads_unique}
+use Rattle.archive_laws.specs.Local.{Alike}
+use Rattle.archive_laws.proofs.Local.{read_local, part_local}
 use Rattle.demands.specs.Calls.{reads_tree, Kept}
 use Rattle.demands.specs.View.{PartIsRecord, PartIsEmpty, record_or_empty}
 

@@ -16,7 +16,7 @@ use Rattle.rules.specs.Record.{record_of}
 use Rattle.rules.specs.Archive.{archive_of}
 use Rattle.rules.specs.Shuffle.{renamed, new_of}
 use Rattle.rules.specs.CladeTable.{trees_of, clade_table}
-use Rattle.accepting.specs.Answers.{reads_unique}
+use Rattle.accepting.proofs.Answers.{reads_unique}
 use Rattle.demands.specs.Calls.{Name, Check, ToTable, FromTable, ToNewick, FromNewick, Pack, Unpack, Shuffle, Relabel, WriteArchive, ReadTree, CladeTable}
 use Rattle.demands.specs.Calls.{Public, checks, call_to_table, call_from_table, to_newick, from_newick, packs, unpacks, shuffles, relabels, writes_archive, reads_tree, call_clade_table, the, Lent, Kept}
 use Rattle.demands.specs.Shapes.{same_entries}

@@ -9,8 +9,9 @@ use native.Mathlib.Omega.{arith}
 use Rattle.std.proofs.Math.Seq.{get_or-take, get_or-drop}
 use Rattle.rules.specs.Vector.{entry, bound}
 use Rattle.rules.specs.CallWriteArchive.{cut, fault_at, fault_in}
-use Rattle.basics.specs.Cases.{by_lt}
-use Rattle.searching.specs.First.{FirstFound, first_at, nowhere, found_same}
+use Rattle.basics.proofs.Cases.{by_lt}
+use Rattle.searching.specs.First.{FirstFound, first_at, nowhere}
+use Rattle.searching.proofs.First.{found_same}
 use Rattle.demands.specs.Conditions.{Above}
 use Rattle.demands.specs.FirstPlace.{above_found}
 

@@ -11,10 +11,13 @@ use Rattle.rules.specs.Building.{member}
 use Rattle.rules.specs.Names.{Placed, first_fault}
 use Rattle.rules.specs.Record.{Bits, total, any_set, padding_in}
 use Rattle.rules.specs.Shuffle.{permutation_fault}
-use Rattle.basics.specs.Bools.{or_cases, or_left, or_right}
-use Rattle.basics.specs.Names.{fault_of, first_step, value_step}
-use Rattle.searching.specs.First.{Tells, tells_if, if_or_else, Below, FirstFound, found_same}
-use Rattle.searching.specs.Walked.{Walk, gathered, gathered_some, walk_found}
+use Rattle.basics.proofs.Bools.{or_cases, or_left, or_right}
+use Rattle.basics.specs.Names.{fault_of}
+use Rattle.basics.proofs.Names.{first_step, value_step}
+use Rattle.searching.specs.First.{Tells, Below, FirstFound}
+use Rattle.searching.proofs.First.{tells_if, if_or_else, found_same}
+use Rattle.searching.specs.Walked.{Walk, gathered}
+use Rattle.searching.proofs.Walked.{gathered_some, walk_found}
 use Rattle.demands.specs.Conditions.{Above, Unfit, PaddingSet}
 
 -- 4: the first entry above its bound

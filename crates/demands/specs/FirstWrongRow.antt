@@ -5,11 +5,13 @@ use Rattle.std.proofs.Common.{true≢false, inl, inr, sym, ap, ◌∙◌, arith,
 use Rattle.std.proofs.lemmas.Bool.{false≢true, eqb-false}
 use Rattle.std.proofs.Math.Option.{Option, none, some}
 use Rattle.rules.specs.Table.{Row, Fault, row_fault, table_fault, children_below, named_twice}
-use Rattle.basics.specs.Bools.{or_left, or_right}
+use Rattle.basics.proofs.Bools.{or_left, or_right}
 use Rattle.read_tables.specs.Forest.{named_also}
-use Rattle.searching.specs.First.{Tells, is_wrong, is_right, or_else, FirstFound, found_first, found_same}
+use Rattle.searching.specs.First.{Tells, is_wrong, is_right, or_else, FirstFound}
+use Rattle.searching.proofs.First.{found_first, found_same}
 use Rattle.rules.specs.First.{First}
-use Rattle.searching.specs.Walked.{Walk, gathered, gathered_some, walk_found}
+use Rattle.searching.specs.Walked.{Walk, gathered}
+use Rattle.searching.proofs.Walked.{gathered_some, walk_found}
 use Rattle.demands.specs.Conditions.{row_at, NamedBefore, WrongRow, parent_wrong, child_not_below, child_named, RowWrong, FirstRow}
 
 -- of a row one thing is wrong first

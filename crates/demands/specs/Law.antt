@@ -11,7 +11,7 @@ use Rattle.rules.specs.declared.Answer.{Answer}
 use Rattle.rules.specs.declared.Answer.TheVariants.{Done, Refused}
 use Rattle.rules.specs.Answer.{done, refused, number_of, reads, Making, made, refuses}
 use Rattle.rules.specs.Promise.{Buffers, Call, makes, answers, holds, Keeps}
-use Rattle.accepting.specs.Answers.{done_same, done_not_refused, made_not_refuses, reads_unique}
+use Rattle.accepting.proofs.Answers.{done_same, done_not_refused, made_not_refuses, reads_unique}
 
 -- nothing is wrong with the input
 abbrev pub Accepted : (ℕ → ℕ → Type 0) → Type 0

@@ -13,11 +13,11 @@ use Rattle.rules.specs.Archive.{trees_in, bare_length, implied_length, packed_at
 use Rattle.rules.specs.Answer.{number_of, Making, made, refuses}
 use Rattle.rules.specs.CladeTable.{trees_of, clade_table}
 use Rattle.rules.specs.CallCladeTable.{following, record_in, vectors_in, table_in, table_of_archive, clade_table_call}
-use Rattle.basics.specs.Cases.{by_lt, by_test}
-use Rattle.accepting.specs.Answers.{made_not_refuses}
-use Rattle.accepting.specs.Guards.{refuse_if_lem, pass_if, wrong_length, right_length}
-use Rattle.record_laws.specs.FromBits.{entry_in_bits, padding_in_bits, bits_accepted}
-use Rattle.clade_passes.specs.Archive.{vectors_next, vectors_refused}
+use Rattle.basics.proofs.Cases.{by_lt, by_test}
+use Rattle.accepting.proofs.Answers.{made_not_refuses}
+use Rattle.accepting.proofs.Guards.{refuse_if_lem, pass_if, wrong_length, right_length}
+use Rattle.record_laws.proofs.FromBits.{entry_in_bits, padding_in_bits, bits_accepted}
+use Rattle.clade_passes.proofs.Archive.{vectors_next, vectors_refused}
 use Rattle.demands.specs.Conditions.{CountWrong, CountRight, Above, WithinBounds, PaddingSet}
 use Rattle.demands.specs.FirstPlace.{padding_found}
 use Rattle.demands.specs.Cases.{count_cases, count_given, count_passes, equal_cases, above_cases, above_given, within_given}

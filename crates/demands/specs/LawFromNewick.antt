@@ -13,12 +13,14 @@ use Rattle.rules.specs.Sent.{signs, SentText}
 use Rattle.rules.specs.Answer.{number_of, Made, made, refuses}
 use Rattle.rules.specs.Guards.{label_number}
 use Rattle.rules.specs.CallFromNewick.{NotLong, FromText, too_long, too_many_signs, breaks, reads_as, from_labels, from_newick_call}
-use Rattle.basics.specs.Names.{fault_of, fault_large, fault_small}
-use Rattle.grammar.specs.Labels.{label_count}
-use Rattle.blanks.specs.Labels.{sent_labels}
-use Rattle.blanks.specs.FromText.{from_text_total, from_text_unique}
-use Rattle.searching.specs.First.{FirstFound, first_at, nowhere, found_first}
-use Rattle.accepting.specs.Guards.{refuse_label_lem, pass_label}
+use Rattle.basics.specs.Names.{fault_of}
+use Rattle.basics.proofs.Names.{fault_large, fault_small}
+use Rattle.grammar.proofs.Labels.{label_count}
+use Rattle.blanks.proofs.Labels.{sent_labels}
+use Rattle.blanks.proofs.FromText.{from_text_total, from_text_unique}
+use Rattle.searching.specs.First.{FirstFound, first_at, nowhere}
+use Rattle.searching.proofs.First.{found_first}
+use Rattle.accepting.proofs.Guards.{refuse_label_lem, pass_label}
 use Rattle.demands.specs.Conditions.{CountWrong, CountRight, NotBelow, UsedBefore, Unfit, label_numbers, label_place}
 use Rattle.rules.specs.First.{First}
 use Rattle.demands.specs.FirstPlace.{label_found}

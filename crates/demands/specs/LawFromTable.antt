@@ -9,11 +9,11 @@ use Rattle.rules.specs.Answer.{number_of, Made, made, refuses}
 use Rattle.rules.specs.Guards.{refuse_fault, refuse_count, refuse_length}
 use Rattle.rules.specs.Promise.{list}
 use Rattle.rules.specs.CallFromTable.{from_table, from_table_call}
-use Rattle.clades.specs.Size.{size_below}
-use Rattle.written_tables.specs.Flat.{rows_of_length}
-use Rattle.read_tables.specs.Forest.{rows_make_a_tree}
+use Rattle.clades.proofs.Size.{size_below}
+use Rattle.written_tables.proofs.Flat.{rows_of_length}
+use Rattle.read_tables.proofs.Forest.{rows_make_a_tree}
 use Rattle.searching.specs.First.{first_at, nowhere}
-use Rattle.accepting.specs.Guards.{wrong_length, right_length}
+use Rattle.accepting.proofs.Guards.{wrong_length, right_length}
 use Rattle.demands.specs.Conditions.{CountWrong, CountRight, FirstRow, RowWrong, parent_wrong, child_not_below, child_named}
 use Rattle.demands.specs.FirstWrongRow.{RowFound, first_row, row_found, row_given}
 use Rattle.demands.specs.Cases.{count_cases, count_given, count_passes, equal_cases}

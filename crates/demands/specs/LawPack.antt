@@ -4,7 +4,7 @@ use Rattle.std.specs.Prelude.{List, ℕ, length}
 use Rattle.rules.specs.Record.{record_of, record_length}
 use Rattle.rules.specs.Promise.{list}
 use Rattle.rules.specs.CallPack.{pack, pack_call}
-use Rattle.record_laws.specs.Inverse.{length_record}
+use Rattle.record_laws.proofs.Inverse.{length_record}
 use Rattle.demands.specs.Law.{Lawful, lawful_made}
 use Rattle.demands.specs.LawVector.{VectorRefused, settled_vector}
 

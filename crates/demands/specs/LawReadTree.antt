@@ -9,9 +9,11 @@ use Rattle.rules.specs.Archive.{trees_in, bare_length, implied_length, packed_at
 use Rattle.rules.specs.Answer.{number_of, made, refuses}
 use Rattle.rules.specs.Promise.{list}
 use Rattle.rules.specs.CallReadTree.{read_tree, read_tree_call}
-use Rattle.record_laws.specs.FromBits.{length_entries_in}
-use Rattle.archive_laws.specs.Framed.{short, leafless, crowded, unfit, absent, framed_cases}
-use Rattle.archive_laws.specs.Reader.{HasTree, NoTree, reader_refused, entry_refused, padding_refused, tree_accepted}
+use Rattle.record_laws.proofs.FromBits.{length_entries_in}
+use Rattle.archive_laws.specs.Framed.{short, leafless, crowded, unfit, absent}
+use Rattle.archive_laws.proofs.Framed.{framed_cases}
+use Rattle.archive_laws.specs.Reader.{HasTree, NoTree}
+use Rattle.archive_laws.proofs.Reader.{reader_refused, entry_refused, padding_refused, tree_accepted}
 use Rattle.demands.specs.Conditions.{CountWrong, CountRight, Above, WithinBounds, PaddingSet}
 use Rattle.demands.specs.FirstPlace.{padding_found}
 use Rattle.demands.specs.Cases.{above_cases, above_given, within_given}

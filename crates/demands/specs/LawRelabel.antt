@@ -11,8 +11,9 @@ use Rattle.rules.specs.Answer.{number_of, Made, made, refuses}
 use Rattle.rules.specs.Promise.{list}
 use Rattle.rules.specs.Guards.{refuse_at, refuse_length, from_vector}
 use Rattle.rules.specs.CallRelabel.{relabel, relabel_call}
-use Rattle.searching.specs.First.{FirstFound, first_at, nowhere, found_first}
-use Rattle.accepting.specs.Guards.{wrong_length, right_length, refuse_at_lem}
+use Rattle.searching.specs.First.{FirstFound, first_at, nowhere}
+use Rattle.searching.proofs.First.{found_first}
+use Rattle.accepting.proofs.Guards.{wrong_length, right_length, refuse_at_lem}
 use Rattle.demands.specs.Conditions.{CountRight, WithinBounds, Unfit}
 use Rattle.rules.specs.First.{First}
 use Rattle.demands.specs.FirstPlace.{unfit_found}

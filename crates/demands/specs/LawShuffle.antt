@@ -5,7 +5,7 @@ use Rattle.std.proofs.Common.{◌∙◌}
 use Rattle.rules.specs.Tree.{tree_of}
 use Rattle.rules.specs.Promise.{lists}
 use Rattle.rules.specs.CallShuffle.{shuffle, shuffle_call}
-use Rattle.laws.specs.TreeOf.{tree_size}
+use Rattle.laws.proofs.TreeOf.{tree_size}
 use Rattle.demands.specs.Law.{Lawful, lawful_made}
 use Rattle.demands.specs.LawVector.{VectorRefused, settled_vector}
 use Rattle.demands.specs.Long.{new_long}

@@ -7,7 +7,8 @@ use Rattle.rules.specs.Record.{record_length, leaf_count, bits_of, entries_of, p
 use Rattle.rules.specs.Answer.{number_of, made, refuses}
 use Rattle.rules.specs.Promise.{list}
 use Rattle.rules.specs.CallUnpack.{unpack, unpack_call}
-use Rattle.record_laws.specs.FromRecord.{Headed, Accepted, length_entries, under_two_bytes, counted, wrong_record, entry_refused, padding_refused, record_accepted}
+use Rattle.record_laws.specs.FromRecord.{Headed, Accepted}
+use Rattle.record_laws.proofs.FromRecord.{length_entries, under_two_bytes, counted, wrong_record, entry_refused, padding_refused, record_accepted}
 use Rattle.demands.specs.Conditions.{CountWrong, CountRight, Above, WithinBounds, PaddingSet}
 use Rattle.rules.specs.First.{First}
 use Rattle.demands.specs.FirstPlace.{padding_found}

@@ -6,7 +6,7 @@ use Rattle.rules.specs.declared.Kind.TheVariants.{LeafCount, Entry}
 use Rattle.rules.specs.Vector.{Valid, fault}
 use Rattle.rules.specs.Answer.{number_of, Making, made, refuses}
 use Rattle.rules.specs.Guards.{refuse_at, from_vector}
-use Rattle.accepting.specs.FromVector.{above_bound, within_bounds}
+use Rattle.accepting.proofs.FromVector.{above_bound, within_bounds}
 use Rattle.demands.specs.Conditions.{CountWrong, CountRight, Above, WithinBounds}
 use Rattle.rules.specs.First.{First}
 use Rattle.demands.specs.Cases.{count_cases, count_given, above_cases, above_given, within_given}

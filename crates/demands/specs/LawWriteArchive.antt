@@ -9,9 +9,10 @@ use Rattle.rules.specs.Archive.{implied_length, archive_of}
 use Rattle.rules.specs.Answer.{number_of, made, refuses}
 use Rattle.rules.specs.Promise.{list}
 use Rattle.rules.specs.CallWriteArchive.{cut, fault_in, write_archive, write_archive_call}
-use Rattle.basics.specs.Cases.{by_lt}
-use Rattle.searching.specs.First.{FirstFound, first_at, nowhere, first_unique, found_first}
-use Rattle.archive_laws.specs.Writer.{next_multiple, write_no_leaf, write_many_leaves, write_too_many, write_in_parts, write_above, write_accepted}
+use Rattle.basics.proofs.Cases.{by_lt}
+use Rattle.searching.specs.First.{FirstFound, first_at, nowhere}
+use Rattle.searching.proofs.First.{first_unique, found_first}
+use Rattle.archive_laws.proofs.Writer.{next_multiple, write_no_leaf, write_many_leaves, write_too_many, write_in_parts, write_above, write_accepted}
 use Rattle.demands.specs.Conditions.{CountWrong, CountRight}
 use Rattle.demands.specs.FirstEntry.{AboveInTree, first_entry_found}
 use Rattle.demands.specs.Cases.{count_cases, equal_cases}

@@ -8,10 +8,10 @@ use Rattle.rules.specs.Tree.{Tree, leaf, node, size, tree_of}
 use Rattle.rules.specs.Order.{vector_of}
 use Rattle.rules.specs.Table.{table_rows, table_of}
 use Rattle.rules.specs.Shuffle.{renamed, new_of}
-use Rattle.basics.specs.Listed.{length_listed}
-use Rattle.building.specs.Built.{merges_length}
-use Rattle.written_tables.specs.Rows.{table_length}
-use Rattle.laws.specs.TreeOf.{tree_size}
+use Rattle.basics.proofs.Listed.{length_listed}
+use Rattle.building.proofs.Built.{merges_length}
+use Rattle.written_tables.proofs.Rows.{table_length}
+use Rattle.laws.proofs.TreeOf.{tree_size}
 
 -- a row for each merge, three numbers for each row
 pub table_long : (v : List ℕ) → Valid v → length (table_of v) ≡ 3 * (length v - 1)

@@ -11,18 +11,19 @@ use Rattle.rules.specs.Shuffle.{renamed, permutation_fault, new_of}
 use Rattle.rules.specs.Answer.{made}
 use Rattle.rules.specs.CallShuffle.{shuffle}
 use Rattle.rules.specs.CallRelabel.{relabel}
-use Rattle.basics.specs.Bools.{both, and_both}
-use Rattle.basics.specs.Cases.{by_lt, by_test}
-use Rattle.basics.specs.Listed.{listed_entries}
-use Rattle.clades.specs.Same.{clade_in, clade_cong}
-use Rattle.shuffle_laws.specs.Permutation.{Permutes, permutes, no_fault, entry_below, entry_injective, entry_onto, one_to_one}
-use Rattle.shuffle_laws.specs.Renaming.{renamed_below, renamed_clades}
-use Rattle.shuffle_laws.specs.Taken.{new_permutes}
-use Rattle.shuffle_laws.specs.Shuffled.{shuffled_ordered}
-use Rattle.accepting.specs.Guards.{right_length, pass_at}
-use Rattle.accepting.specs.FromVector.{vector_accepted}
-use Rattle.laws.specs.TreeOf.{tree_leaves}
-use Rattle.laws.specs.OneToOne.{every_tree, only_vector}
+use Rattle.basics.proofs.Bools.{both, and_both}
+use Rattle.basics.proofs.Cases.{by_lt, by_test}
+use Rattle.basics.proofs.Listed.{listed_entries}
+use Rattle.clades.proofs.Same.{clade_in, clade_cong}
+use Rattle.shuffle_laws.specs.Permutation.{Permutes}
+use Rattle.shuffle_laws.proofs.Permutation.{permutes, no_fault, entry_below, entry_injective, entry_onto, one_to_one}
+use Rattle.shuffle_laws.proofs.Renaming.{renamed_below, renamed_clades}
+use Rattle.shuffle_laws.proofs.Taken.{new_permutes}
+use Rattle.shuffle_laws.proofs.Shuffled.{shuffled_ordered}
+use Rattle.accepting.proofs.Guards.{right_length, pass_at}
+use Rattle.accepting.proofs.FromVector.{vector_accepted}
+use Rattle.laws.proofs.TreeOf.{tree_leaves}
+use Rattle.laws.proofs.OneToOne.{every_tree, only_vector}
 
 -- a permutation of the leaves 0 to n-1: n values, each below n and none of them twice
 pub record Permutation (n : ℕ) (p : List ℕ) : Type 0 where

@@ -4,7 +4,7 @@ use Rattle.std.specs.Prelude.{List, [], ◌∷◌, ◌≡◌, refl, ℕ, ◌≤�
 use Rattle.std.proofs.Common.{ap, ap₂, arith}
 use Rattle.rules.specs.declared.Clade.{Clade}
 use Rattle.rules.specs.Promise.{Buffers, none, list, lists}
-use Rattle.clade_laws.specs.Entries.{entry_equal}
+use Rattle.clade_laws.proofs.Entries.{entry_equal}
 
 -- what each buffer holds, in numbers; how a list is lent in each; and that there is room where the list is long enough
 pub record Shape {L W : Type 0} (B : Buffers L W) : Type 0 where

@@ -19,7 +19,7 @@ use Rattle.rules.specs.Archive.{archive_of}
 use Rattle.rules.specs.Shuffle.{renamed, new_of}
 use Rattle.rules.specs.CladeTable.{trees_of, clade_table}
 use Rattle.rules.specs.CallCheck.{check}
-use Rattle.accepting.specs.Answers.{done_not_refused}
+use Rattle.accepting.proofs.Answers.{done_not_refused}
 use Rattle.demands.specs.Calls.{Name, Public, call_to_table, the, Lent}
 use Rattle.demands.specs.Law.{done_made}
 use Rattle.demands.specs.Shapes.{flat, blank}

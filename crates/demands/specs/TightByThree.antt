@@ -11,7 +11,7 @@ use Rattle.rules.specs.Table.{table_of}
 use Rattle.rules.specs.Newick.{text_of}
 use Rattle.rules.specs.Record.{record_of}
 use Rattle.rules.specs.Archive.{archive_of}
-use Rattle.accepting.specs.Answers.{reads_unique}
+use Rattle.accepting.proofs.Answers.{reads_unique}
 use Rattle.demands.specs.Calls.{Lent}
 use Rattle.demands.specs.DemandTwo.{Vector, table_back, text_back, record_back, run_of_one, archive_back}
 use Rattle.demands.specs.Leads.{Input, vector, table, text, packed, archived, Leads, call_of, Fits, leads_done}

@@ -12,11 +12,11 @@ use Rattle.rules.specs.Answer.{made}
 use Rattle.rules.specs.CladeTable.{trees_of, clade_table}
 use Rattle.rules.specs.CallReadTree.{read_tree}
 use Rattle.rules.specs.CallCladeTable.{record_in, vectors_in, table_of_archive}
-use Rattle.basics.specs.Cases.{by_lt}
-use Rattle.accepting.specs.Answers.{made_same}
-use Rattle.archive_laws.specs.Reader.{reader_inside, only_accepted}
+use Rattle.basics.proofs.Cases.{by_lt}
+use Rattle.accepting.proofs.Answers.{made_same}
+use Rattle.archive_laws.proofs.Reader.{reader_inside, only_accepted}
 use Rattle.archive_laws.specs.Writer.{Run}
-use Rattle.archive_laws.specs.Again.{written_then_read}
+use Rattle.archive_laws.proofs.Again.{written_then_read}
 use Rattle.demands.specs.Conditions.{CountRight}
 use Rattle.demands.specs.LawReadTree.{Whole, tree_entries, has_tree}
 use Rattle.demands.specs.LawCladeTable.{lists_below, tree_vectors, vectors_below, right_record, right_vectors, vectors_right, table_of_vectors}

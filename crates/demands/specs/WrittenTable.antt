@@ -7,20 +7,21 @@ use Rattle.rules.specs.Vector.{Valid}
 use Rattle.rules.specs.Building.{Merge, merges}
 use Rattle.rules.specs.Tree.{leaf, least, Clusters, grown, tree_of}
 use Rattle.rules.specs.Table.{Row, rows_from, table_rows, table_of, rows_of, table_fault, nodes_of, table_tree, Under}
-use Rattle.clades.specs.Leaves.{least_has, least_le}
+use Rattle.clades.proofs.Leaves.{least_has, least_le}
 use Rattle.merging.specs.Named.{Rising}
-use Rattle.merging.specs.Rest.{rising_first}
-use Rattle.building.specs.Built.{merges_length}
-use Rattle.building.specs.InOrder.{InOrder, merges_in_order}
-use Rattle.growing.specs.Grown.{least_grown}
-use Rattle.written_tables.specs.Flat.{rows_of_flat}
-use Rattle.written_tables.specs.Nodes.{accepted_stands, stands_row}
-use Rattle.written_tables.specs.Rows.{rows_length, parent_at}
-use Rattle.written_tables.specs.Accepted.{table_accepted}
-use Rattle.written_tables.specs.Grown.{same_start, row_clusters, table_tree_lem}
-use Rattle.read_tables.specs.Forest.{forest_table}
-use Rattle.read_tables.specs.Clades.{under_has, has_under}
-use Rattle.laws.specs.FactOne.{fact_one_at_each_step, complete_larger_name}
+use Rattle.merging.proofs.Rest.{rising_first}
+use Rattle.building.proofs.Built.{merges_length}
+use Rattle.building.specs.InOrder.{InOrder}
+use Rattle.building.proofs.InOrder.{merges_in_order}
+use Rattle.growing.proofs.Grown.{least_grown}
+use Rattle.written_tables.proofs.Flat.{rows_of_flat}
+use Rattle.written_tables.proofs.Nodes.{accepted_stands, stands_row}
+use Rattle.written_tables.proofs.Rows.{rows_length, parent_at}
+use Rattle.written_tables.proofs.Accepted.{table_accepted}
+use Rattle.written_tables.proofs.Grown.{same_start, row_clusters, table_tree_lem}
+use Rattle.read_tables.proofs.Forest.{forest_table}
+use Rattle.read_tables.proofs.Clades.{under_has, has_under}
+use Rattle.laws.proofs.FactOne.{fact_one_at_each_step, complete_larger_name}
 use Rattle.demands.specs.Conditions.{row_at}
 
 -- x is the least leaf under node k, by the rows alone

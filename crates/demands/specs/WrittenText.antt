@@ -7,10 +7,10 @@ use Rattle.rules.specs.Tree.{Tree, tree_of}
 use Rattle.rules.specs.Newick.{text_of, Text}
 use Rattle.rules.specs.Sent.{signs}
 use Rattle.clades.specs.Form.{Turned}
-use Rattle.grammar.specs.Written.{leaves_text}
-use Rattle.grammar.specs.Complete.{text_unique}
-use Rattle.blanks.specs.Breaks.{text_signs}
-use Rattle.laws.specs.TreeOf.{tree_leaves, tree_form, tree_turned}
+use Rattle.grammar.proofs.Written.{leaves_text}
+use Rattle.grammar.proofs.Complete.{text_unique}
+use Rattle.blanks.proofs.Breaks.{text_signs}
+use Rattle.laws.proofs.TreeOf.{tree_leaves, tree_form, tree_turned}
 
 -- the bytes are a text, which reads as the vector's tree and as no other; and so, in each of its pairs, as Turned says of the tree that is read,
 -- "We write the child with the smaller least leaf first"; "The writer still writes none": its signs are all of it

@@ -8,7 +8,7 @@ use native.Mathlib.Numerals.{add-one}
 use lib.ListN.{set}
 use lib.Seq.{sets}
 use Rattle.grammar.specs.Decimal.{two_digits}
-use Rattle.grammar.specs.Stores.{sets_append}
+use Rattle.grammar.proofs.Stores.{sets_append}
 use Rattle.digits.specs.Wrote.{Wrote}
 
 pub two_there : (l : List ℕ) (at x a b : ℕ) → a ≡ 48 + x / 10 → b ≡ 48 + (x - 10 * (x / 10)) → set (set l at a) (at + 1) b ≡ sets l at (two_digits x)

@@ -11,9 +11,11 @@ use native.Mathlib.Omega.{arith}
 use Rattle.std.proofs.Math.ListN.{length}
 use borrow.Author.Tests.{eqb-true, eqb-false, ne_eqb, lt-ltb}
 use Rattle.rules.specs.Order.{earlier, entry_from, entry_at, listed}
-use Rattle.basics.specs.Bools.{or_cases}
-use Rattle.read_tables.specs.Count.{bit, count, count_none}
-use Rattle.read_tables.specs.Chains.{falling, merges_of, In, Apart, Starts, in_left, in_right, in_cases}
+use Rattle.basics.proofs.Bools.{or_cases}
+use Rattle.read_tables.specs.Count.{bit, count}
+use Rattle.read_tables.proofs.Count.{count_none}
+use Rattle.read_tables.specs.Chains.{falling, merges_of, In, Apart, Starts}
+use Rattle.read_tables.proofs.Chains.{in_left, in_right, in_cases}
 use Rattle.ranks.specs.Ranks.{Ranks, also, count_also, count_le, ranks_none}
 use Rattle.chains.specs.Walk.{cell, Walk, ChainIs, chain_pos, far, far_is}
 use Rattle.entries.specs.Entries.{less_in, less_snoc, less_none, less_some, partner_is, earlier_is, none_earlier, listed_from}

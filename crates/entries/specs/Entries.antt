@@ -3,8 +3,8 @@
 use Rattle.std.specs.Prelude.{◌≡◌, refl, Bool, true, false, ◌&&◌, cond, List, [], ◌∷◌, ◌++◌, ℕ, ◌+◌, ◌≤◌, ◌<◌, eqb, ltb, length, take, drop}
 use Rattle.std.proofs.Common.{sym, ap, ◌∙◌, inl, inr, arith, take-append-drop, get_or-take, ext_get_or, length-take-le, eqb-true, eq-eqb, ne_eqb, ltb-true, lt-ltb, le-ltb}
 use Rattle.rules.specs.Order.{earlier, partner, listed}
-use Rattle.basics.specs.Bools.{and_false}
-use Rattle.basics.specs.Listed.{length_listed, listed_at}
+use Rattle.basics.proofs.Bools.{and_false}
+use Rattle.basics.proofs.Listed.{length_listed, listed_at}
 use Rattle.read_tables.specs.Count.{bit}
 use Rattle.read_tables.specs.Chains.{merges_of, In}
 use Rattle.chains.specs.Walk.{cell}

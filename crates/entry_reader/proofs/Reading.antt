@@ -10,9 +10,10 @@ use lib.ListN.{length, set, length-set}
 use lib.Seq.{take-suc-set}
 use Rattle.rules.specs.Order.{listed}
 use Rattle.rules.specs.Record.{width, total}
-use Rattle.record_laws.specs.Width.{width_most, total_suc, total_mono, total_least}
+use Rattle.record_laws.proofs.Width.{width_most, total_suc, total_mono, total_least}
 use Rattle.record_laws.specs.Window.{value_at}
-use Rattle.record_laws.specs.Fields.{entry_from, entries_from, total_header}
+use Rattle.record_laws.specs.Fields.{entry_from, entries_from}
+use Rattle.record_laws.proofs.Fields.{total_header}
 use Rattle.bit_reader.specs.declared.Reader.{Reader}
 use Rattle.bits.specs.Fields.{field_read, four_read, FieldInside, FourInside}
 use Rattle.runs.specs.Runs.{Run}

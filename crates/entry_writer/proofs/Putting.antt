@@ -7,9 +7,10 @@ use native.Mathlib.Numerals.{add-one}
 use native.Mathlib.Omega.{arith}
 use lib.ListN.{length, take, get_or}
 use Rattle.rules.specs.Record.{width, total, field, fields}
-use Rattle.record_laws.specs.Number.{field_joined}
-use Rattle.record_laws.specs.Width.{width_most, total_suc, total_mono}
-use Rattle.record_laws.specs.Fields.{Fit, fields_take}
+use Rattle.record_laws.proofs.Number.{field_joined}
+use Rattle.record_laws.proofs.Width.{width_most, total_suc, total_mono}
+use Rattle.record_laws.specs.Fields.{Fit}
+use Rattle.record_laws.proofs.Fields.{fields_take}
 use Rattle.four_entries.specs.Four.{four_of}
 use Rattle.bit_writer.specs.Pending.{Room, Put}
 use Rattle.bit_writer.specs.declared.Pending.{Pending}

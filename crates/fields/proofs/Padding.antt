@@ -8,7 +8,7 @@ use lib.ListN.{length, take, get_or}
 use lib.Seq.{get_or-set_same}
 use Rattle.rules.specs.Record.{total}
 use Rattle.rules.specs.Archive.{field_bits}
-use Rattle.record_laws.specs.Width.{total_one}
+use Rattle.record_laws.proofs.Width.{total_one}
 use Rattle.record_laws.specs.Window.{value_at}
 use Rattle.record_laws.specs.Fields.{entries_from}
 use Rattle.bits.specs.Fields.{field_read, FieldInside}

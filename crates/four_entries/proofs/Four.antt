@@ -7,7 +7,7 @@ use native.Mathlib.Nat.{le_trans}
 use native.Mathlib.Omega.{arith}
 use lib.ListN.{get_or}
 use lib.Pow.{pow_mono}
-use Rattle.record_laws.specs.Number.{joined_lt}
+use Rattle.record_laws.proofs.Number.{joined_lt}
 use Rattle.four_entries.specs.Four.{four_of}
 
 -- how large the four numbers are, and those that the first one, two and three of them make on the way

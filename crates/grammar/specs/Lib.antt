@@ -10,5 +10,3 @@ pub mod Written
 pub mod Length
 pub mod Closed
 pub mod Bounds
-pub mod Unique
-pub mod Stores

@@ -1,5 +1,4 @@
--- The pairs of a tree in the order in which their brackets close, each as its two children.
--- Main definitions: pair_count, child_code, pairs_from. Main results: pairs_length, size_pairs.
+-- The pairs of a tree in the order in which their brackets close, each as its two children. Main definitions: pair_count, child_code, pairs_from.
 use Rattle.std.specs.Prelude.{◌≡◌, refl, List, [], ◌∷◌, ◌++◌, ℕ, ◌+◌, length}
 use Rattle.std.proofs.Common.{arith, length-append}
 use Rattle.rules.specs.Tree.{Tree, leaf, node, size}
@@ -19,15 +18,3 @@ unfolding pair_count child_code
 pairs_from k (leaf x) = []
 pairs_from k (node l r) =
     pairs_from k l ++ (pairs_from (k + pair_count l) r ++ ((child_code k l, child_code (k + pair_count l) r) ∷ []))
-
-pub pairs_length : (k : ℕ) (t : Tree) → length (pairs_from k t) ≡ pair_count t
-unfolding pairs_from pair_count
-pairs_length k (leaf x) = refl
-pairs_length k (node l r) =
-    omega (arith, length-append (pairs_from k l) (pairs_from (k + pair_count l) r ++ ((child_code k l, child_code (k + pair_count l) r) ∷ [])), length-append (pairs_from (k + pair_count l) r) ((child_code k l, child_code (k + pair_count l) r) ∷ []), pairs_length k l, pairs_length (k + pair_count l) r)
-
--- one leaf more than pairs
-pub size_pairs : (t : Tree) → size t ≡ pair_count t + 1
-unfolding size pair_count
-size_pairs (leaf x) = refl
-size_pairs (node l r) = omega (arith, size_pairs l, size_pairs r)

@@ -1,10 +1,8 @@
 pub mod Grown
 pub mod Ready
 pub mod Collapse
-pub mod Graft
 pub mod OrderOf
 pub mod Fact1
 pub mod Part
-pub mod Clusters
 pub mod Complete
 pub mod Shortened

@@ -11,9 +11,9 @@ use Rattle.rules.specs.Answer.{Outcome, done, refused, reads, Made, made, refuse
 use Rattle.rules.specs.Promise.{answers, holds, Keeps}
 use Rattle.rules.specs.CallUnpack.{unpack, unpack_call}
 use Rattle.rules.specs.Listing.{line_of, then, line_for}
-use Rattle.accepting.specs.Answers.{done_same, done_not_refused}
+use Rattle.accepting.proofs.Answers.{done_same, done_not_refused}
 use Rattle.rules.specs.Vector.{Vector}
-use Rattle.record_laws.specs.FromRecord.{unpacked_vector}
+use Rattle.record_laws.proofs.FromRecord.{unpacked_vector}
 
 -- what stands at the front of the buffer where unpacking is done: a vector that every call accepts
 pub record VectorFirst (vector : List ℕ) (n : ℕ) : Type 0 where

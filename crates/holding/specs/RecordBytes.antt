@@ -10,10 +10,10 @@ use Rattle.rules.specs.Answer.{Made, made, refuses}
 use Rattle.rules.specs.Guards.{refuse_if, refuse_count}
 use Rattle.rules.specs.CallUnpack.{unpack}
 use Rattle.rules.specs.Listing.{then, line_for, first_record, lines, listing, most_records, listing_of}
-use Rattle.basics.specs.Cases.{by_lt, by_eq}
-use Rattle.accepting.specs.Answers.{made_not_refuses}
-use Rattle.accepting.specs.Guards.{no_leaf, many_leaves, some_leaves, refuse_if_lem, pass_if}
-use Rattle.record_laws.specs.FromRecord.{under_two_bytes, counted, wrong_record}
+use Rattle.basics.proofs.Cases.{by_lt, by_eq}
+use Rattle.accepting.proofs.Answers.{made_not_refuses}
+use Rattle.accepting.proofs.Guards.{no_leaf, many_leaves, some_leaves, refuse_if_lem, pass_if}
+use Rattle.record_laws.proofs.FromRecord.{under_two_bytes, counted, wrong_record}
 use Rattle.holding.specs.Wanted.{bytes_wanted, wanted_begun, wanted_no_leaf, wanted_many_leaves, wanted_record, count_front, wanted_front, wanted_within}
 
 -- the bytes of the record at the front of the input

@@ -4,8 +4,8 @@ use Rattle.std.specs.Prelude.{false, cond, ◌||◌, List, [], ◌∷◌, ◌≡
 use Rattle.std.proofs.Common.{arith}
 use borrow.Author.Tests.{lt-ltb, le-ltb, eq-eqb, ne_eqb}
 use Rattle.rules.specs.Record.{leaf_count, record_length}
-use Rattle.basics.specs.Cases.{by_lt, by_eq}
-use Rattle.record_laws.specs.Width.{record_length_least, record_length_most}
+use Rattle.basics.proofs.Cases.{by_lt, by_eq}
+use Rattle.record_laws.proofs.Width.{record_length_least, record_length_most}
 
 -- "Input that ends inside a record is 2, with the length wanted: 2 where a single byte is left, else the record's length, after 1 for
 -- its n." What is refused with 1 is refused by its first two bytes.

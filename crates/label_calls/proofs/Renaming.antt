@@ -14,12 +14,12 @@ use Rattle.rules.specs.Shuffle.{renamed, new_of, permutation_fault}
 use Rattle.rules.specs.Answer.{made, refuses}
 use Rattle.rules.specs.CallShuffle.{shuffle}
 use Rattle.rules.specs.CallRelabel.{relabel}
-use Rattle.accepting.specs.Guards.{wrong_length, right_length, refuse_at_lem, pass_at}
-use Rattle.laws.specs.TreeOf.{tree_leaves}
-use Rattle.shuffle_laws.specs.Taken.{new_no_fault}
+use Rattle.accepting.proofs.Guards.{wrong_length, right_length, refuse_at_lem, pass_at}
+use Rattle.laws.proofs.TreeOf.{tree_leaves}
+use Rattle.shuffle_laws.proofs.Taken.{new_no_fault}
 use Rattle.permutation.specs.Marks.{place_of}
 use Rattle.renaming.specs.VectorRows.{renamed_count}
-use Rattle.accepting.specs.FromVector.{vector_accepted}
+use Rattle.accepting.proofs.FromVector.{vector_accepted}
 use Rattle.rules.specs.Vector.{Vector}
 
 pub shuffle_made : (v : List ℕ) → Vector v → shuffle v ≡ made (new_of (tree_of v), vector_of (renamed (new_of (tree_of v)) (tree_of v)))

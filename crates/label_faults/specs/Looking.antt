@@ -9,8 +9,9 @@ use Rattle.std.proofs.Math.Option.{Option, none, some}
 use Rattle.rules.specs.Building.{member}
 use Rattle.rules.specs.Names.{NameFault, not_below, used_before, Placed, first_fault}
 use Rattle.rules.specs.Newick.{is_digit, with_digit, ending, labels_from, labels_of}
-use Rattle.basics.specs.Flagged.{Flagged, flagged_none, flagged_next, name_free, name_taken}
-use Rattle.basics.specs.Names.{name_large, fault_small, first_fine, first_wrong, first_step}
+use Rattle.basics.specs.Flagged.{Flagged}
+use Rattle.basics.proofs.Flagged.{flagged_none, flagged_next, name_free, name_taken}
+use Rattle.basics.proofs.Names.{name_large, fault_small, first_fine, first_wrong, first_step}
 use Rattle.text_laws.specs.Cells.{AllZero}
 
 -- the label being read, if one is: its place and its number so far

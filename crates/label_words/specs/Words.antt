@@ -3,7 +3,7 @@
 use Rattle.std.specs.Prelude.{Bool, true, false, cond, List, [], ◌∷◌, ◌≡◌, refl, ℕ, ◌+◌, ◌-◌, ◌*◌, ◌/◌, ◌%◌, ◌≤◌, ◌<◌, ltb, length}
 use Rattle.std.proofs.Common.{ap, ◌∙◌, arith, ltb-true, ltb-false}
 use Rattle.rules.specs.Newick.{digits}
-use Rattle.grammar.specs.Decimal.{digits_one, digits_two, digits_three, digits_four}
+use Rattle.grammar.proofs.Decimal.{digits_one, digits_two, digits_three, digits_four}
 
 -- signs as a number, the first one lowest
 unfoldable pub spread : List ℕ → ℕ

@@ -24,8 +24,4 @@
 -- What a shortened vector means (a later request): building Shortened.valid_take, Shortened.shortened_tree, shortened_clades.
 -- The archive (a later request): archive_laws, whose Lib goes through its sentences.
 -- When a call refuses and what comes back: accepting.
-pub mod TreeOf
-pub mod FactOne
-pub mod FactTwo
 pub mod OneToOne
-pub mod Shortened

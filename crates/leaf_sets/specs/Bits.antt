@@ -4,7 +4,7 @@ use Rattle.std.specs.Prelude.{◌≡◌, List, ◌++◌, ℕ, ◌+◌, ◌*◌, 
 use Rattle.std.proofs.Common.{ap, ◌∙◌, arith, mod-eq_of_lt, one-mul, get_or-set_same, get_or-set_other, get_or-take, length-take-le}
 use Rattle.std.proofs.Math.ListN.{get_or-append}
 use Rattle.std.proofs.Math.Pow.{pow-lt}
-use Rattle.basics.specs.Cases.{by_eq}
+use Rattle.basics.proofs.Cases.{by_eq}
 
 -- the first n words are the leaf sets of the leaves below n
 pub record Bits (n : ℕ) (bits : List ℕ) : Type 0 where

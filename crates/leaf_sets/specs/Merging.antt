@@ -7,14 +7,15 @@ use Rattle.std.proofs.lemmas.Bool.{eqb-false}
 use Rattle.rules.specs.Vector.{Valid}
 use Rattle.rules.specs.Building.{Merge}
 use Rattle.merging.specs.Insertion.{pairs}
-use Rattle.building.specs.Built.{merges_are_pairs}
-use Rattle.written_tables.specs.Rows.{Inside, inside_at}
+use Rattle.building.proofs.Built.{merges_are_pairs}
+use Rattle.written_tables.specs.Rows.{Inside}
+use Rattle.written_tables.proofs.Rows.{inside_at}
 use Rattle.lists.specs.Front.{mix, mix_start, mix_step}
 use Rattle.merges.specs.Room.{list_room}
 use Rattle.merges.specs.Held.{held, merge_at}
 use Rattle.numbering.specs.Numbered.{held_merges, pairs_inside}
 use Rattle.clade_passes.specs.Merged.{merged_into, merged_sets, vector_sets}
-use Rattle.clade_passes.specs.Bounds.{length_vector_sets, set_at_bounds, length_merged}
+use Rattle.clade_passes.proofs.Bounds.{length_vector_sets, set_at_bounds, length_merged}
 use Rattle.leaf_sets.specs.Bits.{Bits}
 
 -- the leaf sets of the merges that the two lists hold

@@ -16,10 +16,10 @@ use Rattle.rules.specs.Newick.{text_of}
 use Rattle.rules.specs.Answer.{done, reads, made}
 use Rattle.rules.specs.Promise.{list, answers, holds, Keeps}
 use Rattle.rules.specs.CallToNewick.{to_text, to_newick_call}
-use Rattle.accepting.specs.Answers.{done_same, done_not_refused}
-use Rattle.accepting.specs.FromVector.{within_bounds}
-use Rattle.accepting.specs.Kept.{said}
-use Rattle.basics.specs.Fault.{valid_no_fault}
+use Rattle.accepting.proofs.Answers.{done_same, done_not_refused}
+use Rattle.accepting.proofs.FromVector.{within_bounds}
+use Rattle.accepting.proofs.Kept.{said}
+use Rattle.basics.proofs.Fault.{valid_no_fault}
 use Rattle.digits.specs.Wrote.{Wrote}
 use Rattle.listing_line.specs.Longest.{text_at_most}
 

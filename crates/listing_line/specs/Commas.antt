@@ -11,7 +11,8 @@ use Rattle.std.proofs.Math.Seq.{take-suc, length-take-le, take-length}
 use Rattle.rules.specs.Vector.{Valid, entry, bound}
 use Rattle.rules.specs.Newick.{digits}
 use Rattle.rules.specs.Listing.{commaed}
-use Rattle.basics.specs.Sums.{sum_below, sum_mono}
+use Rattle.basics.specs.Sums.{sum_below}
+use Rattle.basics.proofs.Sums.{sum_mono}
 use Rattle.digits.specs.Count.{digits_mono}
 use Rattle.listing_front.specs.Commas.{commaed_more}
 

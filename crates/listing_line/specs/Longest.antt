@@ -9,8 +9,8 @@ use Rattle.rules.specs.Vector.{Valid}
 use Rattle.rules.specs.Tree.{tree_of}
 use Rattle.rules.specs.Newick.{digits, text_of}
 use Rattle.rules.specs.Listing.{commaed, line_of}
-use Rattle.laws.specs.TreeOf.{tree_leaves}
-use Rattle.grammar.specs.Length.{text_length_lem, text_length_most}
+use Rattle.laws.proofs.TreeOf.{tree_leaves}
+use Rattle.grammar.proofs.Length.{text_length_lem, text_length_most}
 use Rattle.digits.specs.Wrote.{Wrote}
 use Rattle.digits.specs.Count.{digits_at_most}
 use Rattle.listing_front.specs.Front.{front_of}

@@ -4,8 +4,10 @@ use Rattle.std.specs.Prelude.{◌≡◌, refl, List, ◌∷◌, map, ℕ, suc, �
 use Rattle.std.proofs.Common.{sym, ap, ap₂, ◌∙◌, add-one, arith, length-take, length-drop, length-set, drop-cons, lt-length-set, get_or-set_same, get_or-take, get_or-drop, drop-set-lt, lt-ltb, le-ltb}
 use Rattle.rules.specs.Vector.{entry, bound, Vector}
 use Rattle.rules.specs.Building.{Merge}
-use Rattle.merging.specs.Insertion.{pairs_of, pairs, pairs_count}
-use Rattle.merging.specs.Greedy.{Under, under_pairs}
+use Rattle.merging.specs.Insertion.{pairs_of, pairs}
+use Rattle.merging.proofs.Insertion.{pairs_count}
+use Rattle.merging.specs.Greedy.{Under}
+use Rattle.merging.proofs.Greedy.{under_pairs}
 use Rattle.insertion.specs.Moved.{ins, ins_before}
 use Rattle.merges.specs.Room.{list_room, list_middle}
 use Rattle.merges.specs.Held.{held, place, name_at, name_in, pairs_next, larger_below, merge_at, same_name, held_next}

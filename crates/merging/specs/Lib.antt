@@ -2,5 +2,4 @@ pub mod Insertion
 pub mod Once
 pub mod Greedy
 pub mod Named
-pub mod Rest
 pub mod Without

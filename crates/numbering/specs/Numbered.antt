@@ -10,12 +10,14 @@ use Rattle.std.proofs.lemmas.Bool.{eqb-false}
 use Rattle.rules.specs.Vector.{entry, Valid}
 use Rattle.rules.specs.Building.{Merge}
 use Rattle.rules.specs.Table.{Row, rows_from}
-use Rattle.merging.specs.Insertion.{pairs_of, pairs, valid_bounded}
-use Rattle.merging.specs.Greedy.{under_pairs}
-use Rattle.merging.specs.Named.{rising}
+use Rattle.merging.specs.Insertion.{pairs_of, pairs}
+use Rattle.merging.proofs.Insertion.{valid_bounded}
+use Rattle.merging.proofs.Greedy.{under_pairs}
+use Rattle.merging.proofs.Named.{rising}
 use Rattle.merges.specs.Room.{list_room}
 use Rattle.merges.specs.Held.{held, merge_at}
-use Rattle.written_tables.specs.Rows.{vector_rows, Inside, inside, inside_drop, inside_at, rows_length, rows_cong}
+use Rattle.written_tables.specs.Rows.{vector_rows, Inside}
+use Rattle.written_tables.proofs.Rows.{inside, inside_drop, inside_at, rows_length, rows_cong}
 
 -- the merges that the two lists hold
 unfoldable pub held_merges : List ℕ → List ℕ → ℕ → ℕ → List Merge

@@ -8,11 +8,13 @@ use Rattle.std.proofs.Math.ListN.{drop}
 use Rattle.rules.specs.Building.{Merge}
 use Rattle.rules.specs.Tree.{Tree, has}
 use Rattle.rules.specs.Order.{entry_at, listed, vector_of}
-use Rattle.clades.specs.Leaves.{least_le}
-use Rattle.read_tables.specs.Larger.{Pair, pair_has, pair_of}
-use Rattle.clades.specs.Size.{size_below}
-use Rattle.read_tables.specs.Chains.{chain, falling, merges_of, In, Apart, Bounded, chain_starts, chain_none, falling_in, in_falling}
-use Rattle.read_tables.specs.Falls.{order_falls, falling_apart}
+use Rattle.clades.proofs.Leaves.{least_le}
+use Rattle.read_tables.specs.Larger.{Pair}
+use Rattle.read_tables.proofs.Larger.{pair_has, pair_of}
+use Rattle.clades.proofs.Size.{size_below}
+use Rattle.read_tables.specs.Chains.{chain, falling, merges_of, In, Apart, Bounded}
+use Rattle.read_tables.proofs.Chains.{chain_starts, chain_none, falling_in, in_falling}
+use Rattle.read_tables.proofs.Falls.{order_falls, falling_apart}
 use Rattle.chains.specs.Key.{no_key}
 use Rattle.chains.specs.Walk.{cell}
 use Rattle.chains.specs.Drawn.{Drawn}

@@ -8,10 +8,10 @@ use lib.ListN.{length, take, replicate}
 use lib.Seq.{take-length, take-take}
 use Rattle.rules.specs.Record.{width, total, field, fields}
 use Rattle.rules.specs.Archive.{field_bits}
-use Rattle.record_laws.specs.Bytes.{bytes_take}
-use Rattle.record_laws.specs.Width.{total_one, total_most}
-use Rattle.record_laws.specs.Fields.{total_header}
-use Rattle.record_laws.specs.Inverse.{valid_fit}
+use Rattle.record_laws.proofs.Bytes.{bytes_take}
+use Rattle.record_laws.proofs.Width.{total_one, total_most}
+use Rattle.record_laws.proofs.Fields.{total_header}
+use Rattle.record_laws.proofs.Inverse.{valid_fit}
 use Rattle.bit_writer.specs.Pending.{Held, Put, held_nothing}
 use Rattle.bit_writer.specs.declared.Pending.{Pending}
 use Rattle.entry_writer.specs.Entries.{PutEntries, Due}

@@ -6,7 +6,7 @@ use Rattle.std.proofs.Common.{arith}
 use Rattle.rules.specs.Vector.{Vector}
 use Rattle.rules.specs.Record.{record_length, field, fields, bytes_of, record_of}
 use Rattle.rules.specs.Archive.{field_bits, bare_length, bare_record}
-use Rattle.record_laws.specs.Fields.{total_header}
+use Rattle.record_laws.proofs.Fields.{total_header}
 
 -- the bytes of so many bits and the fields of n entries
 unfoldable pub bytes_behind : ℕ → ℕ → ℕ

@@ -7,9 +7,10 @@ use Rattle.std.proofs.lemmas.List.{length-replicate, get_or-replicate}
 use Rattle.std.proofs.Math.Seq.{drop-length}
 use Rattle.rules.specs.Names.{NameFault, name_fault}
 use Rattle.rules.specs.Shuffle.{permutation_fault}
-use Rattle.basics.specs.Cases.{by_lt}
-use Rattle.basics.specs.Names.{name_large, value_fine, value_wrong}
-use Rattle.basics.specs.Flagged.{Flagged, flagged_none, flagged_next, name_free, name_taken}
+use Rattle.basics.proofs.Cases.{by_lt}
+use Rattle.basics.proofs.Names.{name_large, value_fine, value_wrong}
+use Rattle.basics.specs.Flagged.{Flagged}
+use Rattle.basics.proofs.Flagged.{flagged_none, flagged_next, name_free, name_taken}
 
 -- a place below the length, or none
 unfoldable pub place_of : ℕ → ℕ → Option ℕ

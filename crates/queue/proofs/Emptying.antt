@@ -8,8 +8,10 @@ use lib.ListN.{length, drop}
 use Rattle.rules.specs.Tree.{Tree}
 use Rattle.rules.specs.Table.{table_tree}
 use Rattle.rules.specs.Shuffle.{new_of, Queue}
-use Rattle.shuffle_laws.specs.Handed.{outcome, outcome_end, outcome_new}
-use Rattle.shuffle_laws.specs.Zipped.{zipped_rows, zipped_nodes, zipped_tree, Tabled, some_leaf, length_zipped, zipped_nodes_lem}
+use Rattle.shuffle_laws.specs.Handed.{outcome}
+use Rattle.shuffle_laws.proofs.Handed.{outcome_end, outcome_new}
+use Rattle.shuffle_laws.specs.Zipped.{zipped_rows, zipped_nodes, zipped_tree, Tabled}
+use Rattle.shuffle_laws.proofs.Zipped.{some_leaf, length_zipped, zipped_nodes_lem}
 use Rattle.queue.specs.Waits.{queue_at, Waits, Lent, Placed, waits_place, outcome_place, waits_start, queue_none}
 use Rattle.queue.proofs.Taking.{lent_placed}
 

@@ -6,7 +6,7 @@ use Prim.Native.Nat.{ℕ, ◌+◌, ◌-◌, ◌≤◌, ◌<◌}
 use native.Mathlib.Omega.{arith}
 use lib.ListN.{length, get_or, length-set}
 use Rattle.rules.specs.Tree.{Clusters}
-use Rattle.basics.specs.Cases.{by_lt}
+use Rattle.basics.proofs.Cases.{by_lt}
 use Rattle.shuffle_laws.specs.Taken.{inner}
 use Rattle.shuffle_laws.specs.Handed.{outcome}
 use Rattle.shuffle_laws.specs.Zipped.{NodesFrom}

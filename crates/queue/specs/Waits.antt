@@ -10,10 +10,12 @@ use Rattle.std.proofs.lemmas.List.{drop-append-le, get_or_at}
 use Rattle.std.proofs.Math.Seq.{drop-length}
 use Rattle.rules.specs.Tree.{Tree, leaf, node, least, Clusters, LeavesBelow}
 use Rattle.rules.specs.Shuffle.{Queue}
-use Rattle.basics.specs.Cases.{by_lt, by_eq}
-use Rattle.clades.specs.Size.{size_below}
-use Rattle.shuffle_laws.specs.Taken.{inner, inner_in, weigh, weigh_append, size_inner}
-use Rattle.shuffle_laws.specs.Handed.{outcome, outcome_take, outcome_leaf, outcome_node}
+use Rattle.basics.proofs.Cases.{by_lt, by_eq}
+use Rattle.clades.proofs.Size.{size_below}
+use Rattle.shuffle_laws.specs.Taken.{inner, inner_in, weigh}
+use Rattle.shuffle_laws.proofs.Taken.{weigh_append, size_inner}
+use Rattle.shuffle_laws.specs.Handed.{outcome}
+use Rattle.shuffle_laws.proofs.Handed.{outcome_take, outcome_leaf, outcome_node}
 use Rattle.clades.specs.Form.{Turned}
 use Rattle.shuffle_laws.specs.Zipped.{NodesFrom}
 

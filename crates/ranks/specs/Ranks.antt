@@ -5,7 +5,8 @@ use Rattle.std.specs.Prelude.{◌≡◌, refl, Bool, true, false, ◌||◌, List
 use Rattle.std.proofs.Common.{sym, ap, ap₂, ◌∙◌, add-zero, add-suc, zero-add, arith, eqb-true, ltb-true, ltb-false, lt-ltb, le-ltb}
 use Rattle.std.proofs.lemmas.Bool.{false≢true, eqb-false}
 use Rattle.std.proofs.lemmas.List.{length-replicate, get_or-replicate}
-use Rattle.read_tables.specs.Count.{bit, count, count_none, count_or}
+use Rattle.read_tables.specs.Count.{bit, count}
+use Rattle.read_tables.proofs.Count.{count_none, count_or}
 use Rattle.steps.specs.Steps.{Added}
 
 -- blocks has how many members are below each block, names how many of its block are below each name

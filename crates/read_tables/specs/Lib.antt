@@ -1,7 +1,6 @@
 pub mod Larger
 pub mod Chains
 pub mod Falls
-pub mod Collapse
 pub mod Count
 pub mod Forest
 pub mod Clades

@@ -13,13 +13,15 @@ use Rattle.std.proofs.Math.Seq.{get_or-set_other}
 use borrow.Author.Tests.{eqb-true, eqb-false}
 use Rattle.rules.specs.Tree.{least}
 use Rattle.rules.specs.Table.{Row, rows_of, named_twice, row_fault, table_fault}
-use Rattle.basics.specs.Bools.{or_cases}
-use Rattle.clades.specs.Leaves.{least_has}
-use Rattle.read_tables.specs.Forest.{RowOk, named_in, named_also, named_snoc, fault_append, fault_step}
+use Rattle.basics.proofs.Bools.{or_cases}
+use Rattle.clades.proofs.Leaves.{least_has}
+use Rattle.read_tables.specs.Forest.{RowOk, named_in, named_also}
+use Rattle.read_tables.proofs.Forest.{named_snoc, fault_append, fault_step}
 use Rattle.chains.specs.Walk.{cell}
 use Rattle.chains.specs.Built.{taken, nodes, Built, Adds}
-use Rattle.written_tables.specs.Flat.{rows_of_length}
-use Rattle.written_tables.specs.RowAt.{row_at, rows_drop, rows_take}
+use Rattle.written_tables.proofs.Flat.{rows_of_length}
+use Rattle.written_tables.specs.RowAt.{row_at}
+use Rattle.written_tables.proofs.RowAt.{rows_drop, rows_take}
 use Rattle.row_checks.specs.Mark.{mark}
 use Rattle.row_checks.specs.Verdict.{verdict, verdict_fault, placed, named_verdict, placed_row, in_place}
 

@@ -13,11 +13,13 @@ use lib.Seq.{take_all}
 use Rattle.rules.specs.Order.{listed}
 use Rattle.rules.specs.Record.{Bits, width, number, bits_of, any_set}
 use Rattle.rules.specs.Archive.{field_bits}
-use Rattle.record_laws.specs.Number.{AreBits, are_drop, number_cons}
-use Rattle.record_laws.specs.Bytes.{are_bits, length_bits}
-use Rattle.record_laws.specs.Width.{total_one, total_most}
+use Rattle.record_laws.specs.Number.{AreBits}
+use Rattle.record_laws.proofs.Number.{are_drop, number_cons}
+use Rattle.record_laws.proofs.Bytes.{are_bits, length_bits}
+use Rattle.record_laws.proofs.Width.{total_one, total_most}
 use Rattle.record_laws.specs.Window.{value_at}
-use Rattle.record_laws.specs.Fields.{entry_from, entries_from, total_header}
+use Rattle.record_laws.specs.Fields.{entry_from, entries_from}
+use Rattle.record_laws.proofs.Fields.{total_header}
 use Rattle.bits.specs.Fields.{FieldInside}
 use Rattle.entry_reader.specs.Reading.{Reading, Left}
 use Rattle.fields.specs.Parts.{Parts}

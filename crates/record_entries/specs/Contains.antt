@@ -6,7 +6,7 @@ use Rattle.std.proofs.Common.{sym, ap, ◌∙◌, arith}
 use Rattle.rules.specs.Vector.{fault}
 use Rattle.rules.specs.Record.{bits_of, any_set}
 use Rattle.rules.specs.Archive.{field_bits}
-use Rattle.basics.specs.Listed.{length_listed}
+use Rattle.basics.proofs.Listed.{length_listed}
 use Rattle.record_laws.specs.Fields.{entry_from, entries_from}
 use Rattle.vector.specs.Fault.{first_fault, first_fault_some, first_fault_none}
 use Rattle.record_entries.specs.declared.Contents.{Contents}

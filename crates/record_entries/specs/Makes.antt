@@ -9,7 +9,7 @@ use Rattle.rules.specs.Archive.{field_bits}
 use Rattle.rules.specs.Answer.{made, refuses}
 use Rattle.rules.specs.CallUnpack.{from_bits}
 use Rattle.record_laws.specs.Fields.{entries_from}
-use Rattle.record_laws.specs.FromBits.{entry_in_bits, padding_in_bits, bits_accepted, length_entries_in}
+use Rattle.record_laws.proofs.FromBits.{entry_in_bits, padding_in_bits, bits_accepted, length_entries_in}
 use Rattle.record_entries.specs.Contains.{Contains}
 use Rattle.record_entries.specs.declared.Contents.TheVariants.{Entries}
 

@@ -1,8 +1,6 @@
 pub mod Number
 pub mod Bytes
 pub mod Window
-pub mod Width
 pub mod Fields
-pub mod FromBits
 pub mod FromRecord
 pub mod Inverse

@@ -7,7 +7,7 @@ use mathlib.Core.List.{List, [], ◌∷◌, ◌++◌, map}
 use Rattle.std.proofs.Math.ListN.{set, get_or-append}
 use Rattle.std.proofs.lemmas.List.{length-map, get_or_at}
 use Rattle.std.proofs.Math.Seq.{take-suc, set_at, append_snoc}
-use Rattle.basics.specs.Mapped.{map_append}
+use Rattle.basics.proofs.Mapped.{map_append}
 use Rattle.shuffle_laws.specs.Rows.{renamed_child}
 
 -- the first k children with the leaves renamed by p, and the rest

@@ -8,17 +8,21 @@ use Rattle.rules.specs.Tree.{tree_of}
 use Rattle.rules.specs.Order.{vector_of}
 use Rattle.rules.specs.Table.{Row, rows_from, table_fault, table_tree}
 use Rattle.rules.specs.Shuffle.{renamed, permutation_fault}
-use Rattle.merging.specs.Insertion.{pairs, pairs_count}
-use Rattle.laws.specs.OneToOne.{every_tree}
-use Rattle.laws.specs.TreeOf.{tree_by_pairs, tree_leaves}
-use Rattle.shuffle_laws.specs.Permutation.{permutes}
-use Rattle.shuffle_laws.specs.Renaming.{renamed_below}
-use Rattle.shuffle_laws.specs.Rows.{renamed_rows, renamed_rows_lem}
-use Rattle.written_tables.specs.Rows.{first, second, vector_rows, rows_length, parent_at}
-use Rattle.written_tables.specs.Accepted.{pairs_accepted}
-use Rattle.written_tables.specs.Grown.{pairs_tree}
+use Rattle.merging.specs.Insertion.{pairs}
+use Rattle.merging.proofs.Insertion.{pairs_count}
+use Rattle.laws.proofs.OneToOne.{every_tree}
+use Rattle.laws.proofs.TreeOf.{tree_by_pairs, tree_leaves}
+use Rattle.shuffle_laws.proofs.Permutation.{permutes}
+use Rattle.shuffle_laws.proofs.Renaming.{renamed_below}
+use Rattle.shuffle_laws.specs.Rows.{renamed_rows}
+use Rattle.shuffle_laws.proofs.Rows.{renamed_rows_lem}
+use Rattle.written_tables.specs.Rows.{first, second, vector_rows}
+use Rattle.written_tables.proofs.Rows.{rows_length, parent_at}
+use Rattle.written_tables.proofs.Accepted.{pairs_accepted}
+use Rattle.written_tables.proofs.Grown.{pairs_tree}
 use Rattle.children_order.specs.Children.{Children}
-use Rattle.shuffle_laws.specs.Zipped.{zipped_rows, zipped_tree, zipped_is, zipped_renamed, getD_zipped, length_zipped}
+use Rattle.shuffle_laws.specs.Zipped.{zipped_rows, zipped_tree}
+use Rattle.shuffle_laws.proofs.Zipped.{zipped_is, zipped_renamed, getD_zipped, length_zipped}
 use Rattle.renaming.specs.Renames.{renamed_to, renamed_at}
 
 -- left and right hold the children of these rows

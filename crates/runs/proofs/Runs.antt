@@ -6,7 +6,7 @@ use native.Mathlib.Nat.{one-mul, mod-eq_of_lt}
 use native.Mathlib.Omega.{arith}
 use lib.Pow.{pow-lt}
 use Rattle.rules.specs.Record.{width, total}
-use Rattle.record_laws.specs.Width.{width_below, width_least, width_most, width_run, width_fours, total_suc}
+use Rattle.record_laws.proofs.Width.{width_below, width_least, width_most, width_run, width_fours, total_suc}
 use Rattle.runs.specs.Runs.{Fours, Run}
 
 -- the end of the entries of one width, as a shift makes it

@@ -8,8 +8,8 @@ use Rattle.rules.specs.Order.{vector_of}
 use Rattle.rules.specs.Tree.{Tree, tree_of, LeavesBelow}
 use Rattle.rules.specs.Shuffle.{renamed, permutation_fault, new_of}
 use Rattle.clades.specs.Form.{Turned}
-use Rattle.laws.specs.TreeOf.{tree_leaves, tree_turned}
-use Rattle.shuffle_laws.specs.Taken.{new_no_fault}
+use Rattle.laws.proofs.TreeOf.{tree_leaves, tree_turned}
+use Rattle.shuffle_laws.proofs.Taken.{new_no_fault}
 use Rattle.shuffle_laws.specs.Zipped.{zipped_tree, Tabled}
 use Rattle.renaming.specs.VectorRows.{RowsOf, rows_tree, rows_fine, renamed_front}
 

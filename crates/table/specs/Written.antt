@@ -6,10 +6,13 @@ use Rattle.std.proofs.lemmas.List.{length-map}
 use Rattle.rules.specs.Vector.{entry}
 use Rattle.rules.specs.Table.{Row, flat, rows_from}
 use Rattle.lists.specs.Front.{mix, mix_start, mix_step}
-use Rattle.merging.specs.Insertion.{pairs, pairs_count}
-use Rattle.written_tables.specs.Flat.{flat_length, flat_first, flat_second, flat_parent}
-use Rattle.written_tables.specs.Rows.{first, second, vector_rows, rows_length, tied_rows}
-use Rattle.written_tables.specs.Tied.{tied, tied_length, tied_at}
+use Rattle.merging.specs.Insertion.{pairs}
+use Rattle.merging.proofs.Insertion.{pairs_count}
+use Rattle.written_tables.proofs.Flat.{flat_length, flat_first, flat_second, flat_parent}
+use Rattle.written_tables.specs.Rows.{first, second, vector_rows}
+use Rattle.written_tables.proofs.Rows.{rows_length, tied_rows}
+use Rattle.written_tables.specs.Tied.{tied}
+use Rattle.written_tables.proofs.Tied.{tied_length, tied_at}
 
 -- the n - 1 rows with these children: the parent of row t is n + t
 unfoldable pub child_rows : ℕ → List ℕ → List ℕ → List Row

@@ -8,9 +8,9 @@ use lib.ListN.{length, take}
 use lib.Seq.{take_at}
 use Rattle.rules.specs.Order.{vector_of}
 use Rattle.rules.specs.Table.{rows_of, table_fault, table_tree}
-use Rattle.read_tables.specs.Forest.{rows_make_a_tree}
-use Rattle.laws.specs.OneToOne.{every_tree}
-use Rattle.written_tables.specs.Flat.{rows_of_length}
+use Rattle.read_tables.proofs.Forest.{rows_make_a_tree}
+use Rattle.laws.proofs.OneToOne.{every_tree}
+use Rattle.written_tables.proofs.Flat.{rows_of_length}
 
 -- the vector of accepted rows has an entry for each leaf
 pub vector_count : (n : ℕ) (xs : List ℕ) → 1 ≤ n → length xs ≡ 3 * (n - 1) → table_fault n (rows_of xs) ≡ none → length (vector_of (table_tree n (rows_of xs))) ≡ n

@@ -8,9 +8,9 @@ use Rattle.rules.specs.Table.{table_of, flat, rows_from}
 use Rattle.rules.specs.Answer.{made}
 use Rattle.rules.specs.CallToTable.{to_table}
 use Rattle.merging.specs.Insertion.{pairs}
-use Rattle.building.specs.Built.{merges_are_pairs, merges_length}
-use Rattle.written_tables.specs.Rows.{table_length}
-use Rattle.accepting.specs.FromVector.{vector_accepted}
+use Rattle.building.proofs.Built.{merges_are_pairs, merges_length}
+use Rattle.written_tables.proofs.Rows.{table_length}
+use Rattle.accepting.proofs.FromVector.{vector_accepted}
 use Rattle.rules.specs.Vector.{Vector}
 
 pub table_made : (v : List ℕ) → Vector v → to_table v ≡ made (flat (rows_from (length v) (λ c. c) (pairs v)))

@@ -8,9 +8,10 @@ use Rattle.rules.specs.Tree.{tree_of}
 use Rattle.rules.specs.Newick.{text_of}
 use Rattle.rules.specs.Answer.{made}
 use Rattle.rules.specs.CallToNewick.{to_text}
-use Rattle.laws.specs.TreeOf.{tree_leaves}
-use Rattle.grammar.specs.Length.{text_length, text_length_lem}
-use Rattle.accepting.specs.FromVector.{vector_accepted}
+use Rattle.laws.proofs.TreeOf.{tree_leaves}
+use Rattle.grammar.specs.Length.{text_length}
+use Rattle.grammar.proofs.Length.{text_length_lem}
+use Rattle.accepting.proofs.FromVector.{vector_accepted}
 use Rattle.rules.specs.Vector.{Vector}
 
 pub text_made : (v : List ℕ) → Vector v → to_text v ≡ made (text_of (tree_of v))

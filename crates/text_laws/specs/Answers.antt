@@ -60,11 +60,6 @@ pub record Broke (f : Reader) (s : List ℕ) (at : ℕ) (m' : List ℕ) (r : ℕ
 abbrev pub Answers : Reader → List ℕ → ℕ → List ℕ → List ℕ → ℕ → Type 0
 Answers f s at m m' r = Took f s at m m' r ⊎ Broke f s at m' r
 
--- the place where they end may be looked at
-pub answers_place : {f : Reader} {s : List ℕ} {at : ℕ} {m m' : List ℕ} {r : ℕ} → length s ≤ 6056 → Answers f s at m m' r → r < 6144
-answers_place h (inl t) = omega (arith, t.within)
-answers_place h (inr b) = omega (arith, b.off)
-
 -- a text of n leaves is read
 pub record TextTook (s m m' : List ℕ) (n : ℕ) : Type 0 where
   pub tree : Tree

@@ -1,4 +1,3 @@
-pub mod Bytes
 pub mod Cells
 pub mod Answers
 pub mod Digits

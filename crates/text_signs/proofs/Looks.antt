@@ -10,10 +10,11 @@ use lib.Dec.{eqb}
 use lib.ListN.{length, get_or, drop, drop_of_length-le}
 use borrow.Author.Tests.{ne_eqb}
 use Rattle.rules.specs.Sent.{blank, signs}
-use Rattle.basics.specs.Cases.{by_lt}
-use Rattle.blanks.specs.Marks.{signs_blank, signs_sign}
-use Rattle.blanks.specs.Places.{place_of, place_nil, place_blank, place_first, place_later}
-use Rattle.text_laws.specs.Bytes.{drop_byte}
+use Rattle.basics.proofs.Cases.{by_lt}
+use Rattle.blanks.proofs.Marks.{signs_blank, signs_sign}
+use Rattle.blanks.specs.Places.{place_of}
+use Rattle.blanks.proofs.Places.{place_nil, place_blank, place_first, place_later}
+use Rattle.text_laws.proofs.Bytes.{drop_byte}
 
 -- a byte that is none of the first three blanks is one exactly when it is the fourth
 pub blank_last : (c : ℕ) → (c ≡ 32 → ⊥) → (c ≡ 9 → ⊥) → (c ≡ 13 → ⊥) → eqb c 10 ≡ blank c

@@ -11,12 +11,14 @@ use lib.Seq.{get_or_at, get_or-set_same, get_or-set_other, get_or-append-add, ge
 use borrow.Author.Tests.{ltb-true, ltb-false}
 use Rattle.rules.specs.Newick.{is_digit}
 use Rattle.rules.specs.Sent.{blank, signs}
-use Rattle.basics.specs.Bools.{and_false, and_both}
-use Rattle.basics.specs.Cases.{by_lt, by_eq}
-use Rattle.blanks.specs.Marks.{Last, other, next, parts, at_gap, behind_digit, behind_blank, behind_sign, gap_sign, gap_blank, signs_blank, signs_sign}
-use Rattle.blanks.specs.Kept.{kept_from, kept, kept_blank, kept_sign, kept_parted}
-use Rattle.blanks.specs.Plain.{plain_kept}
-use Rattle.text_laws.specs.Bytes.{drop_byte, place_digit}
+use Rattle.basics.proofs.Bools.{and_false, and_both}
+use Rattle.basics.proofs.Cases.{by_lt, by_eq}
+use Rattle.blanks.specs.Marks.{Last, other, next, parts, at_gap, behind_digit}
+use Rattle.blanks.proofs.Marks.{behind_blank, behind_sign, gap_sign, gap_blank, signs_blank, signs_sign}
+use Rattle.blanks.specs.Kept.{kept_from, kept}
+use Rattle.blanks.proofs.Kept.{kept_blank, kept_sign, kept_parted}
+use Rattle.blanks.proofs.Plain.{plain_kept}
+use Rattle.text_laws.proofs.Bytes.{drop_byte, place_digit}
 use Rattle.text_laws.specs.Cells.{AllZero}
 use Rattle.text_laws.specs.Answers.{Same}
 use Rattle.text_signs.specs.Keeping.{kept_of, SignsKept, KeptIn}

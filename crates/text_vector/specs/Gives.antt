@@ -14,24 +14,28 @@ use Rattle.rules.specs.Sent.{SentText}
 use Rattle.rules.specs.Answer.{Made, made, refuses}
 use Rattle.rules.specs.Guards.{label_number, refuse_label}
 use Rattle.rules.specs.CallFromNewick.{from_labels, NotLong, FromText, breaks, reads_as}
-use Rattle.accepting.specs.Guards.{many_leaves, some_leaves, refuse_label_lem, pass_label}
-use Rattle.laws.specs.OneToOne.{every_tree}
-use Rattle.blanks.specs.Kept.{kept, kept_fewer}
+use Rattle.accepting.proofs.Guards.{many_leaves, some_leaves, refuse_label_lem, pass_label}
+use Rattle.laws.proofs.OneToOne.{every_tree}
+use Rattle.blanks.specs.Kept.{kept}
+use Rattle.blanks.proofs.Kept.{kept_fewer}
 use Rattle.blanks.specs.Marks.{other}
 use Rattle.blanks.specs.Places.{place_of}
-use Rattle.blanks.specs.Breaks.{kept_text, kept_breaks}
-use Rattle.blanks.specs.Labels.{sent_labels}
-use Rattle.grammar.specs.Labels.{label_count}
-use Rattle.grammar.specs.Pairs.{pairs_from, size_pairs}
-use Rattle.grammar.specs.Faults.{no_fault_leaves}
-use Rattle.grammar.specs.Once.{each_leaf_no_fault}
-use Rattle.text_laws.specs.Cells.{cell, begun, AllZero, begun_cells, begun_other}
+use Rattle.blanks.proofs.Breaks.{kept_text, kept_breaks}
+use Rattle.blanks.proofs.Labels.{sent_labels}
+use Rattle.grammar.proofs.Labels.{label_count}
+use Rattle.grammar.specs.Pairs.{pairs_from}
+use Rattle.grammar.proofs.Pairs.{size_pairs}
+use Rattle.grammar.proofs.Faults.{no_fault_leaves}
+use Rattle.grammar.proofs.Once.{each_leaf_no_fault}
+use Rattle.text_laws.specs.Cells.{cell, begun, AllZero}
+use Rattle.text_laws.proofs.Cells.{begun_cells, begun_other}
 use Rattle.text_laws.specs.Answers.{TextTook}
 use Rattle.text_signs.specs.Keeping.{SignsKept}
 use Rattle.text_reader.specs.Reading.{InFront}
 use Rattle.label_faults.specs.Fault.{fault_is}
 use Rattle.label_faults.specs.Marks.{EachOnce}
-use Rattle.text_laws.specs.Recorded.{children, kept_cells, pairs_there, marks_there, TableOf, recorded_rows, table_recorded}
+use Rattle.text_laws.specs.Recorded.{children, TableOf, recorded_rows}
+use Rattle.text_laws.proofs.Recorded.{kept_cells, pairs_there, marks_there, table_recorded}
 use Rattle.text_vector.specs.declared.TextVector.{TextVector}
 use Rattle.text_vector.specs.declared.TextVector.TheVariants.{Entries, TooManySigns, Breaks, TooManyLeaves, Label}
 

@@ -7,7 +7,7 @@ use Rattle.std.proofs.Math.ListN.{get_or-append}
 use Rattle.rules.specs.Tree.{Tree}
 use Rattle.rules.specs.Table.{Row, table_tree}
 use Rattle.rules.specs.Order.{vector_of}
-use Rattle.written_tables.specs.Tied.{tied_at}
+use Rattle.written_tables.proofs.Tied.{tied_at}
 use Rattle.children_order.specs.Children.{Children}
 use Rattle.text_laws.specs.Numbered.{first_number, second_number}
 use Rattle.text_laws.specs.Recorded.{TableOf, recorded_rows}

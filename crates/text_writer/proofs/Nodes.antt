@@ -9,8 +9,9 @@ use lib.Seq.{sets}
 use borrow.Author.Tests.{lt-ltb}
 use Rattle.rules.specs.Newick.{digits, pair_text, node_text, text_of}
 use Rattle.rules.specs.Tree.{node, least}
-use Rattle.written_tables.specs.Tied.{tree_at, whole_tree, tree_leaf, tree_pair}
-use Rattle.grammar.specs.Length.{pair_length}
+use Rattle.written_tables.specs.Tied.{tree_at, whole_tree}
+use Rattle.written_tables.proofs.Tied.{tree_leaf, tree_pair}
+use Rattle.grammar.proofs.Length.{pair_length}
 use Rattle.digits.specs.Count.{some_digit, digits_at_most}
 use Rattle.label_words.specs.Words.{word_of}
 use Rattle.label_words.specs.Leaves.{leaves_place}

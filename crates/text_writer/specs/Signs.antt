@@ -3,7 +3,7 @@
 use Rattle.std.specs.Prelude.{cond, List, [], ◌∷◌, ◌≡◌, refl, ℕ, ◌+◌, ◌*◌, ◌/◌, ◌%◌, ◌≤◌, ◌<◌, ltb, length, take}
 use Rattle.std.proofs.Common.{sym, ap, subst, ◌∙◌, arith, lt-ltb, le-ltb}
 use Rattle.rules.specs.Newick.{digits}
-use Rattle.grammar.specs.Decimal.{digits_one, digits_two, digits_three, digits_four}
+use Rattle.grammar.proofs.Decimal.{digits_one, digits_two, digits_three, digits_four}
 use Rattle.label_words.specs.Words.{word_of, last_tens, last_ones, word_one, word_two_digits, word_three_digits, word_four_digits, by_digits}
 
 -- the four bytes of a word, the lowest first

@@ -11,8 +11,8 @@ use Rattle.rules.specs.Answer.{Made, made, refuses}
 use Rattle.rules.specs.CallUnpack.{from_bits}
 use Rattle.rules.specs.CallReadTree.{read_tree}
 use Rattle.record_laws.specs.Fields.{entries_from}
-use Rattle.archive_laws.specs.Bare.{bare_length_bits, entries_behind_count, padding_behind_count}
-use Rattle.archive_laws.specs.Reader.{reader_inside}
+use Rattle.archive_laws.proofs.Bare.{bare_length_bits, entries_behind_count, padding_behind_count}
+use Rattle.archive_laws.proofs.Reader.{reader_inside}
 use Rattle.record.specs.Filled.{Filled}
 use Rattle.record_entries.specs.Contains.{Contains}
 use Rattle.record_entries.specs.Makes.{entry_made, padding_made, entries_made}

@@ -5,8 +5,9 @@ use Rattle.std.proofs.Common.{ap, ap₂, ◌∙◌, arith}
 use Rattle.rules.specs.Vector.{Valid}
 use Rattle.rules.specs.Tree.{Tree, tree_of}
 use Rattle.rules.specs.Newick.{text_of}
-use Rattle.laws.specs.TreeOf.{tree_leaves}
-use Rattle.grammar.specs.Length.{text_length, text_length_lem, text_length_most}
+use Rattle.laws.proofs.TreeOf.{tree_leaves}
+use Rattle.grammar.specs.Length.{text_length}
+use Rattle.grammar.proofs.Length.{text_length_lem, text_length_most}
 use Rattle.written_tables.specs.Tied.{whole_tree}
 use Rattle.text_writer.specs.Output.{sign_places, TextRoom, Stands}
 use Rattle.written_tables.specs.Rows.{vector_rows}

@@ -9,16 +9,21 @@ use Rattle.rules.specs.Vector.{entry, Valid}
 use Rattle.rules.specs.Building.{Merge}
 use Rattle.rules.specs.Tree.{leaf, least, tree_of}
 use Rattle.rules.specs.Table.{rows_from, nodes_of, table_tree}
-use Rattle.merging.specs.Insertion.{pairs_of, pairs, pairs_count, valid_bounded}
-use Rattle.merging.specs.Greedy.{Under, under_pairs}
-use Rattle.merging.specs.Named.{Good, good, Rising, rising}
-use Rattle.merging.specs.Rest.{rising_first}
-use Rattle.growing.specs.Grown.{least_grown}
-use Rattle.laws.specs.TreeOf.{tree_by_pairs}
-use Rattle.written_tables.specs.Tied.{tied, tree_at, whole_tree, tree_whole}
-use Rattle.written_tables.specs.Rows.{first, second, vector_rows, rows_length, tied_rows}
-use Rattle.written_tables.specs.Accepted.{pairs_below}
-use Rattle.written_tables.specs.Grown.{same_start, row_clusters, pairs_tree}
+use Rattle.merging.specs.Insertion.{pairs_of, pairs}
+use Rattle.merging.proofs.Insertion.{pairs_count, valid_bounded}
+use Rattle.merging.specs.Greedy.{Under}
+use Rattle.merging.proofs.Greedy.{under_pairs}
+use Rattle.merging.specs.Named.{Good, Rising}
+use Rattle.merging.proofs.Named.{good, rising}
+use Rattle.merging.proofs.Rest.{rising_first}
+use Rattle.growing.proofs.Grown.{least_grown}
+use Rattle.laws.proofs.TreeOf.{tree_by_pairs}
+use Rattle.written_tables.specs.Tied.{tied, tree_at, whole_tree}
+use Rattle.written_tables.proofs.Tied.{tree_whole}
+use Rattle.written_tables.specs.Rows.{first, second, vector_rows}
+use Rattle.written_tables.proofs.Rows.{rows_length, tied_rows}
+use Rattle.written_tables.proofs.Accepted.{pairs_below}
+use Rattle.written_tables.proofs.Grown.{same_start, row_clusters, pairs_tree}
 use Rattle.text_writer.specs.Output.{Ordered}
 
 -- the smaller name of each merge is first

@@ -11,9 +11,11 @@ use Rattle.rules.specs.Record.{leaf_count, record_length, bits_of, entries_in, e
 use Rattle.rules.specs.Archive.{field_bits}
 use Rattle.rules.specs.Answer.{made, refuses}
 use Rattle.rules.specs.CallUnpack.{from_entries, unpack}
-use Rattle.record_laws.specs.Fields.{entries_from, total_header, entries_from_header}
-use Rattle.record_laws.specs.Width.{record_length_bits}
-use Rattle.record_laws.specs.FromRecord.{Headed, headed, wrong_record}
+use Rattle.record_laws.specs.Fields.{entries_from}
+use Rattle.record_laws.proofs.Fields.{total_header, entries_from_header}
+use Rattle.record_laws.proofs.Width.{record_length_bits}
+use Rattle.record_laws.specs.FromRecord.{Headed}
+use Rattle.record_laws.proofs.FromRecord.{headed, wrong_record}
 use Rattle.record.specs.Filled.{Filled}
 use Rattle.record_entries.specs.Contains.{Contains}
 use Rattle.record_entries.specs.Makes.{entry_made, padding_made, entries_made}

@@ -8,7 +8,7 @@ use Rattle.std.proofs.Math.Option.{Option, none, some}
 use Rattle.std.proofs.Math.Seq.{drop-length}
 use Rattle.std.proofs.lemmas.Bool.{eqb-false}
 use Rattle.rules.specs.Vector.{entry, bound, fault}
-use Rattle.basics.specs.Fault.{fault_inside, bounded_no_fault}
+use Rattle.basics.proofs.Fault.{fault_inside, bounded_no_fault}
 
 -- the number of the first entry above its bound, and the number of entries where there is none
 unfoldable pub first_fault : List ℕ → ℕ

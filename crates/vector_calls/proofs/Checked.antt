@@ -12,9 +12,10 @@ use Rattle.rules.specs.declared.Refusal.{Refusal}
 use Rattle.rules.specs.declared.Answer.{Answer}
 use Rattle.rules.specs.declared.Answer.TheVariants.{Done, Refused}
 use Rattle.rules.specs.Guards.{from_vector}
-use Rattle.accepting.specs.Answers.{done_not_refused}
-use Rattle.accepting.specs.Kept.{refused_early}
-use Rattle.accepting.specs.FromVector.{no_entry, many_entries, above_bound, within_bounds, Seen, faulty, sound, seen}
+use Rattle.accepting.proofs.Answers.{done_not_refused}
+use Rattle.accepting.proofs.Kept.{refused_early}
+use Rattle.accepting.specs.FromVector.{Seen, faulty, sound}
+use Rattle.accepting.proofs.FromVector.{no_entry, many_entries, above_bound, within_bounds, seen}
 use Rattle.rules.specs.Vector.{Vector}
 use Rattle.vector.specs.Fault.{first_fault, first_fault_some, first_fault_none}
 

@@ -2,7 +2,7 @@
 use mathlib.Core.Path.{refl}
 use lib.Seq.{length-take-le}
 use Rattle.rules.specs.Answer as answers
-use Rattle.accepting.specs.Kept.{short_room, full_list}
+use Rattle.accepting.proofs.Kept.{short_room, full_list}
 use Rattle.answering.proofs.hand_out.Goals as goal
 
 pub returns-then-out-n : goal.returns-then-out-n

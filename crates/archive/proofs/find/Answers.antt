@@ -1,7 +1,7 @@
 -- `archive::find` meets its contract: the tests, one after another, are those of the frame (specs/Finds).
 use native.Mathlib.Omega.{arith}
 use Rattle.archive_laws.specs.Framed.{short}
-use Rattle.archive_laws.specs.Header.{trees_lt}
+use Rattle.archive_laws.proofs.Header.{trees_lt}
 use Rattle.archive.specs.Finds.{no_leaf_found, many_leaves_found, length_found, no_tree_found, record_found}
 use Rattle.archive.proofs.find.Goals as goal
 

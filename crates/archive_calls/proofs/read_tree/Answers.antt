@@ -1,6 +1,6 @@
 -- `read_tree` meets its contract: what is read of the tree, and where it is a vector the room.
 use Rattle.rules.specs.Answer as answers
-use Rattle.accepting.specs.Kept.{refused_early, handed_on}
+use Rattle.accepting.proofs.Kept.{refused_early, handed_on}
 use Rattle.archive_calls.proofs.read_tree.Goals as goal
 
 pub hand_out-requires : goal.hand_out-requires

@@ -8,8 +8,8 @@ use Prim.Native.Nat.{ℕ, ◌*◌, ◌/◌, ◌≤◌}
 use lib.ListN.{length}
 use Rattle.rules.specs.Answer as answers
 use Rattle.rules.specs.CallWriteArchive.{cut, fault_in}
-use Rattle.accepting.specs.Kept.{refused_early, short_room, full_list}
-use Rattle.archive_laws.specs.Writer.{write_no_leaf, write_many_leaves, write_too_many, write_in_parts, write_above, write_accepted}
+use Rattle.accepting.proofs.Kept.{refused_early, short_room, full_list}
+use Rattle.archive_laws.proofs.Writer.{write_no_leaf, write_many_leaves, write_too_many, write_in_parts, write_above, write_accepted}
 use Rattle.archive_faults.specs.FaultIn.{first_fault_in, fault_in_none, fault_in_some}
 use Rattle.archive_calls.proofs.Counted.{Counted, trees_most, whole_most, next_most}
 use Rattle.archive_calls.proofs.write_archive.Goals as goal

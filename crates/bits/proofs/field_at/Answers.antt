@@ -2,7 +2,8 @@
 use native.Mathlib.Omega.{arith}
 use mathlib.Core.Path.{◌≡◌, sym, ap, ◌∙◌}
 use Prim.Native.Nat.{ℕ, ◌+◌, ◌*◌, ◌/◌, ◌%◌}
-use Rattle.record_laws.specs.Window.{value_at, value_word}
+use Rattle.record_laws.specs.Window.{value_at}
+use Rattle.record_laws.proofs.Window.{value_word}
 use Rattle.bits.proofs.field_at.Goals as goal
 
 pub returns : goal.returns

@@ -10,7 +10,7 @@ add_above-requires c = (adding_batch c.loop-t.invariant, c.loop-t.invariant.gues
 
 pub loop-t-preserved : goal.loop-t-preserved
 loop-t-preserved c = adding_next c.loop-t.invariant c.loop-t-test.true
-    c.words-1.given c.guesses-1.given c.add_above.ensures
+    c.add_above.auto.words c.add_above.auto.guesses c.add_above.ensures
 
 pub returns : goal.returns
 returns c = adding_end c.loop-t.invariant c.loop-t-test.false

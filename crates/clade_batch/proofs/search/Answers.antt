@@ -4,38 +4,14 @@ use Rattle.clade_batch.specs.Place.{bracket_start, bracket_up, bracket_down, bra
 use native.Mathlib.Omega.{arith}
 use Rattle.clade_batch.proofs.search.Goals as goal
 
--- src/lib.rt:41:5
-
 pub loop-lo-init : goal.loop-lo-init
 loop-lo-init c = bracket_start c.args.words.now c.args.k c.args.leaves
-
--- src/lib.rt:42:25
-
--- src/lib.rt:42:19
-
--- src/lib.rt:43:18
-
--- src/lib.rt:43:12
-
--- src/lib.rt:43:12
-
--- src/lib.rt:44:18
-
--- src/lib.rt:41:5
-
--- src/lib.rt:41:5
 
 pub loop-lo-preserved-then-words-mid : goal.loop-lo-preserved-then-words-mid
 loop-lo-preserved-then-words-mid c = bracket_up (c.loop-lo.lo + (c.loop-lo.hi - c.loop-lo.lo) / 2) c.requires.0 c.loop-lo.invariant (omega arith) c.if-words-mid.true
 
--- src/lib.rt:41:5
-
--- src/lib.rt:41:5
-
 pub loop-lo-preserved : goal.loop-lo-preserved
 loop-lo-preserved c = bracket_down (c.loop-lo.lo + (c.loop-lo.hi - c.loop-lo.lo) / 2) c.requires.0 c.loop-lo.invariant (omega arith) (omega arith) c.if-words-mid.false
-
--- src/lib.rt:35:1
 
 pub returns : goal.returns
 returns c = bracket_end c.loop-lo.invariant c.loop-lo-test.false

@@ -2,7 +2,7 @@
 use mathlib.Core.Path.{sym, ap, ap₂, ◌∙◌}
 use Rattle.rules.specs.Archive.{implied_length}
 use Rattle.rules.specs.Answer.{number_of, refused}
-use Rattle.archive_laws.specs.Header.{trees_lt}
+use Rattle.archive_laws.proofs.Header.{trees_lt}
 use Rattle.clade_calls.specs.Checked.{stopped, of_archive, short_archive, no_leaf, many_leaves, table_leaves, length_refused}
 use native.Mathlib.Omega.{arith}
 use Rattle.clade_calls.proofs.checked.Goals as goal

@@ -2,7 +2,6 @@
 use lib.ListN.{length-take}
 use Rattle.clade_pass.specs.Tree.{read_vector, tree_added}
 use native.Mathlib.Omega.{arith}
-use borrow.Author.Rules.{rules}
 use Rattle.clade_pass.proofs.add_tree.Goals as goal
 
 pub slice_bounds-sets_of-end-then-read_record : goal.slice_bounds-sets_of-end-then-read_record

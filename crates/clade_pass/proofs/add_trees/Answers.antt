@@ -1,10 +1,6 @@
 -- `add_trees` meets its contract: the first r trees are added.
-use mathlib.Core.Path.{◌≡◌, ◌∙◌, sym}
-use Prim.Native.Nat.{◌-◌}
-use lib.ListN.{length}
-use borrow.Author.Tests.{not-true, not-false}
-use Rattle.leaf_sets.specs.Bits.{Bits}
-use Rattle.clade_pass.specs.Pass.{Passing, Rooms, passing_start, passing_roomy, record_inside, record_bytes, passing_next, passing_refused, passing_end}
+use mathlib.Core.Path.{◌∙◌, sym}
+use Rattle.clade_pass.specs.Pass.{passing_start, passing_roomy, record_inside, record_bytes, passing_next, passing_refused, passing_end}
 use borrow.Author.Rules.{rules}
 use Rattle.clade_pass.proofs.add_trees.Goals as goal
 
@@ -32,26 +28,26 @@ returns-then-not-add_tree c = passing_refused c.loop-r.invariant.0
     (rw c.if-not-add_tree.true at c.add_tree.ensures)
 
 pub loop-r-preserved : goal.loop-r-preserved
-loop-r-preserved c = let A = c.add_tree in (
-  passing_next c.loop-r.invariant.0
-      c.loop-r-test.true
-      c.add_tree.auto.words (rw c.if-not-add_tree.false at A.ensures),
-  record {
-    vectors = c.add_tree.auto.vector;
-    lists = c.add_tree.auto.list;
-    smaller = c.add_tree.auto.small;
-    merged = c.add_tree.auto.clusters;
-    leaf_sets = c.add_tree.auto.sets;
-    guessed = c.add_tree.auto.guesses;
-  },
-  c.loop-r.invariant.2,
-  c.loop-r.invariant.3,
-  c.loop-r.invariant.4,
-)
+loop-r-preserved c = let A = c.add_tree in
+    let R = c.loop-r.invariant.1 in (
+      passing_next c.loop-r.invariant.0
+          c.loop-r-test.true
+          c.add_tree.auto.words (rw c.if-not-add_tree.false at A.ensures),
+      record {
+        vectors = c.add_tree.auto.vector ∙ R.vectors;
+        lists = c.add_tree.auto.list ∙ R.lists;
+        smaller = c.add_tree.auto.small ∙ R.smaller;
+        merged = c.add_tree.auto.clusters ∙ R.merged;
+        leaf_sets = c.add_tree.auto.sets ∙ R.leaf_sets;
+        guessed = c.add_tree.auto.guesses ∙ R.guessed;
+      },
+      c.loop-r.invariant.2,
+      c.loop-r.invariant.3,
+      c.loop-r.invariant.4,
+    )
 
 pub shape_of-words : goal.shape_of-words
 shape_of-words c = c.loop-r.invariant.0.words_there ∙ sym c.loop-r.invariant.4
 
 pub returns : goal.returns
 returns c = passing_end c.loop-r.invariant.0 c.loop-r-test.false
-

@@ -1,11 +1,9 @@
 -- `add_trees` meets its contract: the first r trees are added.
-use mathlib.Core.Path.{◌≡◌, ◌∙◌, sym}
+use mathlib.Core.Path.{◌≡◌}
 use Prim.Native.Nat.{◌-◌}
 use lib.ListN.{length}
-use borrow.Author.Tests.{not-true, not-false}
 use Rattle.leaf_sets.specs.Bits.{Bits}
-use Rattle.clade_pass.specs.Pass.{Passing, Rooms, passing_start, passing_roomy, record_inside, record_bytes, passing_next, passing_refused, passing_end}
-use borrow.Author.Rules.{rules}
+use Rattle.clade_pass.specs.Pass.{Passing, Rooms}
 use Rattle.clade_pass.proofs.add_trees.Given as goal
 
 abbrev pub invariant-loop-r : goal.invariant-loop-r

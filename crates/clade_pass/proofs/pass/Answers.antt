@@ -2,7 +2,6 @@
 use mathlib.Core.Path.{◌≡◌}
 use Rattle.clade_pass.specs.Pass.{one_leaf_passed, two_leaves_passed}
 use native.Mathlib.Omega.{arith}
-use borrow.Author.Rules.{rules}
 use Rattle.clade_pass.proofs.pass.Goals as goal
 
 pub returns-then-n-eq2 : goal.returns-then-n-eq2

@@ -1,7 +1,6 @@
 -- `read_record` meets its contract: what the bytes contain from bit 0 on is what they make behind their n.
 use Rattle.tree_reading.specs.Gives.{bare_filled, entry_above, padding_set, entries_right}
 use native.Mathlib.Omega.{arith}
-use borrow.Author.Rules.{rules}
 use Rattle.clade_pass.proofs.read_record.Goals as goal
 
 pub read_entries-requires : goal.read_entries-requires

@@ -4,7 +4,8 @@ use Prim.Native.Nat.{ℕ, ◌-◌, ◌*◌, ◌/◌}
 use mathlib.Core.List.{[], ◌∷◌}
 use mathlib.Core.Path.{◌∙◌, sym, ap}
 use lib.ListN.{length, length-set}
-use Rattle.grammar.specs.Decimal.{two_digits, digits_one, digits_two, digits_three, digits_four}
+use Rattle.grammar.specs.Decimal.{two_digits}
+use Rattle.grammar.proofs.Decimal.{digits_one, digits_two, digits_three, digits_four}
 use Rattle.digits.proofs.Places.{wrote_1, wrote_2, wrote_3, wrote_4}
 use Rattle.digits.proofs.write_label.Goals as goal
 

@@ -1,5 +1,5 @@
 use mathlib.Core.Path.{refl}
-use Rattle.accepting.specs.Kept.{refused_early, short_room, full_list}
+use Rattle.accepting.proofs.Kept.{refused_early, short_room, full_list}
 use Rattle.rules.specs.Answer as answers
 use Rattle.rules.specs.CallRelabel as calls
 use Rattle.vector_calls.proofs.Checked.{checked_sound, refused_alike}

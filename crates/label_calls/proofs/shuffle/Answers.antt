@@ -2,7 +2,7 @@ use native.Mathlib.Omega.{arith}
 use Rattle.rules.specs.Answer as answers
 use mathlib.Core.Path.{refl}
 use Rattle.rules.specs.CallShuffle as calls
-use Rattle.accepting.specs.Kept.{short_room, full_lists}
+use Rattle.accepting.proofs.Kept.{short_room, full_lists}
 use Rattle.vector_calls.proofs.Checked.{checked_sound, refused_alike}
 use Rattle.label_calls.proofs.Renaming.{shuffle_made, new_count, shuffled_count}
 use Rattle.label_calls.proofs.shuffle.Goals as goal

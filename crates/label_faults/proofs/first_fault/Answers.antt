@@ -1,6 +1,6 @@
 use Prim.Native.Nat.{ℕ}
 use lib.ListN.{length-replicate}
-use Rattle.text_laws.specs.Cells.{replicate_all_zero}
+use Rattle.text_laws.proofs.Cells.{replicate_all_zero}
 use Rattle.label_faults.proofs.first_fault.Goals as goal
 
 pub look-requires : goal.look-requires

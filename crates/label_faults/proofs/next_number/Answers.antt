@@ -1,6 +1,6 @@
 use native.Mathlib.Omega.{arith}
 use Rattle.label_faults.specs.Looking.{number_inside, number_outside}
-use Rattle.text_laws.specs.Bytes.{digit_range}
+use Rattle.text_laws.proofs.Bytes.{digit_range}
 use Rattle.label_faults.proofs.next_number.Goals as goal
 
 pub overflow_sub-d : goal.overflow_sub-d

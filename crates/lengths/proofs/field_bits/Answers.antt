@@ -2,7 +2,7 @@
 use native.Mathlib.Omega.{arith}
 use borrow.Author.Rules.{rules}
 use Rattle.rules.specs.Archive.{field_bits}
-use Rattle.record_laws.specs.Fields.{total_header}
+use Rattle.record_laws.proofs.Fields.{total_header}
 use Rattle.lengths.proofs.field_bits.Goals as goal
 
 pub overflow_sub-result : goal.overflow_sub-result

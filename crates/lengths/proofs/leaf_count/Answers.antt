@@ -5,7 +5,8 @@ use mathlib.Core.List.{List, [], ◌∷◌}
 use Prim.Native.Nat.{ℕ}
 use lib.ListN.{get_or}
 use Rattle.rules.specs.Record.{leaf_count}
-use Rattle.record_laws.specs.Window.{value_at, value_lt}
+use Rattle.record_laws.specs.Window.{value_at}
+use Rattle.record_laws.proofs.Window.{value_lt}
 use Rattle.bits.specs.Fields.{field_read}
 use Rattle.lengths.proofs.leaf_count.Goals as goal
 

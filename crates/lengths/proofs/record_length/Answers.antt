@@ -2,7 +2,7 @@
 use native.Mathlib.Omega.{arith}
 use borrow.Author.Rules.{rules}
 use Rattle.rules.specs.Record.{record_length}
-use Rattle.record_laws.specs.Width.{total_most}
+use Rattle.record_laws.proofs.Width.{total_most}
 use Rattle.lengths.proofs.record_length.Goals as goal
 
 pub overflow_add-result : goal.overflow_add-result

@@ -8,7 +8,7 @@ pub returns-then-wide-i : goal.returns-then-wide-i
 returns-then-wide-i c = put_front c.requires (omega (arith, c.if-wide-i.true, c.wide.ensures))
 
 pub offset_bounds-small-wide : goal.offset_bounds-small-wide
-offset_bounds-small-wide c = omega (arith, c.wide-2.ensures, c.slice_known-4-1.given (c.insert-start.result + c.wide-d.result))
+offset_bounds-small-wide c = omega (arith, c.wide-2.ensures, c.type_inv.list (c.insert-start.result + c.wide-d.result))
 
 pub bounds-small-wide : goal.bounds-small-wide
 bounds-small-wide c = let T = c.requires in

@@ -1,7 +1,7 @@
 -- `queue::queue` meets its contract. The loop's invariant is Emptying: the state of the queue, and that its result stays. The measure is the nodes left.
 use Rattle.queue.proofs.Taking.{placed_new}
 use Rattle.queue.proofs.Emptying.{emptying_start, start_result, emptying_next, emptying_end}
-use Rattle.shuffle_laws.specs.Zipped.{some_leaf, zipped_nodes_lem}
+use Rattle.shuffle_laws.proofs.Zipped.{some_leaf, zipped_nodes_lem}
 use mathlib.Core.Path.{◌∙◌}
 use native.Mathlib.Omega.{arith}
 use Rattle.queue.proofs.queue.Goals as goal

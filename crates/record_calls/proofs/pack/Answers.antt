@@ -5,10 +5,10 @@ use Prim.Native.Nat.{ℕ}
 use Rattle.rules.specs.Record.{record_of}
 use Rattle.rules.specs.Answer as answers
 use Rattle.rules.specs.CallPack as calls
-use Rattle.accepting.specs.FromVector.{vector_accepted}
+use Rattle.accepting.proofs.FromVector.{vector_accepted}
 use Rattle.rules.specs.Vector.{Vector}
-use Rattle.accepting.specs.Kept.{short_room, full_list}
-use Rattle.record_laws.specs.Inverse.{length_record}
+use Rattle.accepting.proofs.Kept.{short_room, full_list}
+use Rattle.record_laws.proofs.Inverse.{length_record}
 use Rattle.vector_calls.proofs.Checked.{checked_sound, refused_alike}
 use Rattle.record_calls.proofs.pack.Goals as goal
 

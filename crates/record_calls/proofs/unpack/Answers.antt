@@ -1,6 +1,6 @@
 -- `unpack` meets its contract: what is told of the record, and where it has a vector the room.
 use Rattle.rules.specs.Answer as answers
-use Rattle.accepting.specs.Kept.{refused_early, handed_on}
+use Rattle.accepting.proofs.Kept.{refused_early, handed_on}
 use Rattle.record_calls.proofs.unpack.Goals as goal
 
 pub hand_out-requires : goal.hand_out-requires

@@ -3,7 +3,7 @@ use mathlib.Core.Path.{sym, ap, ◌∙◌}
 use Prim.Native.Nat.{ℕ}
 use lib.ListN.{get_or}
 use Rattle.rules.specs.Vector.{entry}
-use Rattle.shuffle_laws.specs.Rows.{child_leaf, child_inner}
+use Rattle.shuffle_laws.proofs.Rows.{child_leaf, child_inner}
 use native.Mathlib.Omega.{arith}
 use Rattle.renaming.proofs.renamed_child.Goals as goal
 

@@ -4,7 +4,7 @@ use Prim.Native.Nat.{◌-◌, ◌*◌}
 use lib.Count.{leading_le}
 use Rattle.rules.specs.Vector.{bound}
 use Rattle.rules.specs.Record.{width}
-use Rattle.record_laws.specs.Width.{needed_leading}
+use Rattle.record_laws.proofs.Width.{needed_leading}
 use Rattle.runs.proofs.field_width.Goals as goal
 
 pub overflow_sub-result-2 : goal.overflow_sub-result-2

@@ -3,7 +3,7 @@ use native.Mathlib.Omega.{arith}
 use mathlib.Core.Path.{◌∙◌}
 use Prim.Native.Nat.{◌≤◌}
 use Rattle.rules.specs.Record.{width}
-use Rattle.record_laws.specs.Width.{width_least, width_most}
+use Rattle.record_laws.proofs.Width.{width_least, width_most}
 use Rattle.runs.proofs.Runs.{run_shift, run_small, run_to}
 use Rattle.runs.proofs.run_end.Goals as goal
 

@@ -1,8 +1,8 @@
 -- `from_table` meets its contract: what is found of the rows, and where they are accepted the room.
-use Rattle.accepting.specs.Kept.{refused_early, handed_on}
+use Rattle.accepting.proofs.Kept.{refused_early, handed_on}
 use native.Mathlib.Omega.{arith}
 use Rattle.rules.specs.Answer as answers
-use Rattle.accepting.specs.FromTable.{no_leaves, too_many_leaves, wrong_rows, row_refused, rows_accepted}
+use Rattle.accepting.proofs.FromTable.{no_leaves, too_many_leaves, wrong_rows, row_refused, rows_accepted}
 use Rattle.table_calls.proofs.FromTable.{vector_count, read_front}
 use Rattle.table_calls.proofs.from_table.Goals as goal
 

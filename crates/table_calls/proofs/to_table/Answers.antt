@@ -1,7 +1,7 @@
 use mathlib.Core.Path.{refl}
 use native.Mathlib.Omega.{arith}
 use Rattle.rules.specs.Answer as answers
-use Rattle.accepting.specs.Kept.{short_room, full_list}
+use Rattle.accepting.proofs.Kept.{short_room, full_list}
 use Rattle.rules.specs.CallToTable as calls
 use Rattle.vector_calls.proofs.Checked.{checked_sound, refused_alike}
 use Rattle.table_calls.proofs.ToTable.{table_made, table_count}

@@ -1,6 +1,6 @@
 -- `from_newick` meets its contract: what is told of the text, and where it has a vector the room.
 use Rattle.rules.specs.Answer as answers
-use Rattle.accepting.specs.Kept.{refused_early, handed_on}
+use Rattle.accepting.proofs.Kept.{refused_early, handed_on}
 use Rattle.rules.specs.CallFromNewick.{too_long}
 use Rattle.rules.specs.Guards.{label_number}
 use Rattle.label_faults.specs.Fault.{fault_is}

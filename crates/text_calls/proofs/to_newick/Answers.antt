@@ -1,4 +1,4 @@
-use Rattle.accepting.specs.Kept.{short_room, full_list}
+use Rattle.accepting.proofs.Kept.{short_room, full_list}
 use mathlib.Core.Path.{refl, sym, ◌∙◌}
 use Rattle.rules.specs.Answer as answers
 use Rattle.rules.specs.CallToNewick as calls

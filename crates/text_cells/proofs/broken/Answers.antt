@@ -1,5 +1,5 @@
 use mathlib.Core.Path.{refl}
-use Rattle.text_laws.specs.Cells.{break_there, break_before}
+use Rattle.text_laws.proofs.Cells.{break_there, break_before}
 use Rattle.text_cells.proofs.broken.Goals as goal
 
 pub returns-then-at-ne-OFF : goal.returns-then-at-ne-OFF

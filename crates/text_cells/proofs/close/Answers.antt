@@ -1,4 +1,4 @@
-use Rattle.text_laws.specs.Cells.{pair_there}
+use Rattle.text_laws.proofs.Cells.{pair_there}
 use Rattle.text_cells.proofs.close.Goals as goal
 
 pub returns : goal.returns

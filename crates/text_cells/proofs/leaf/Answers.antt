@@ -1,5 +1,5 @@
 use mathlib.Core.Path.{refl}
-use Rattle.text_laws.specs.Cells.{leaf_small, leaf_large}
+use Rattle.text_laws.proofs.Cells.{leaf_small, leaf_large}
 use Rattle.text_cells.proofs.leaf.Goals as goal
 
 pub returns-then-x-lt1024 : goal.returns-then-x-lt1024

@@ -1,4 +1,4 @@
-use Rattle.text_laws.specs.Bytes.{digit_from, digit_below}
+use Rattle.text_laws.proofs.Bytes.{digit_from, digit_below}
 use Rattle.text_labels.proofs.digit.Goals as goal
 
 pub returns-then-c-ge48 : goal.returns-then-c-ge48

@@ -1,7 +1,7 @@
 use native.Mathlib.Omega.{arith}
 use mathlib.Core.Path.{sym, ◌∙◌}
-use Rattle.text_laws.specs.Digits.{label_of_one, label_of_two, label_of_three, label_of_four}
-use Rattle.text_laws.specs.Bytes.{digit_range}
+use Rattle.text_laws.proofs.Digits.{label_of_one, label_of_two, label_of_three, label_of_four}
+use Rattle.text_laws.proofs.Bytes.{digit_range}
 use Rattle.text_labels.proofs.label.Goals as goal
 
 pub returns-then-not-digit : goal.returns-then-not-digit

@@ -3,9 +3,11 @@ use Rattle.grammar.specs.Reading.{node_read}
 use Rattle.rules.specs.Newick.{is_digit}
 use Rattle.text_laws.specs.Cells.{cell, opened, shut}
 use Rattle.text_laws.specs.Answers.{MayBegin, Answers}
-use Rattle.text_laws.specs.Nodes.{labelled_zero, took_label, broke_here, broke_deep, begin_first, FirstRead, first_end, broke_first, took_first, begin_second}
-use Rattle.text_laws.specs.Nodes.{SecondRead, second_end, broke_second, closing, pair_depth, took_pair}
-use Rattle.text_laws.specs.Bytes.{no_digit_above, no_digit_below}
+use Rattle.text_laws.specs.Nodes.{FirstRead}
+use Rattle.text_laws.proofs.Nodes.{labelled_zero, took_label, broke_here, broke_deep, begin_first, first_end, broke_first, took_first, begin_second}
+use Rattle.text_laws.specs.Nodes.{SecondRead}
+use Rattle.text_laws.proofs.Nodes.{second_end, broke_second, closing, pair_depth, took_pair}
+use Rattle.text_laws.proofs.Bytes.{no_digit_above, no_digit_below}
 use Rattle.text_nodes.proofs.+node_pair.Goals as goal
 
 -- what a call of the node reader ensures

@@ -1,5 +1,6 @@
 use mathlib.Core.Path.{refl, sym, ◌∙◌}
-use Rattle.text_laws.specs.Whole.{NodeRead, begin_start, node_end, text_broken, broken_small, end_place, text_longer, text_took}
+use Rattle.text_laws.specs.Whole.{NodeRead}
+use Rattle.text_laws.proofs.Whole.{begin_start, node_end, text_broken, broken_small, end_place, text_longer, text_took}
 use native.Mathlib.Omega.{arith}
 use Rattle.text_reader.proofs.read_text.Goals as goal
 

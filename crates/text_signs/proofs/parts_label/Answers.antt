@@ -2,7 +2,7 @@ use mathlib.Core.Bool.{◌&&◌}
 use mathlib.Core.Path.{ap, sym, ◌∙◌}
 use lib.ListN.{get_or-eq_default}
 use Rattle.rules.specs.Newick.{is_digit}
-use Rattle.basics.specs.Bools.{and_false}
+use Rattle.basics.proofs.Bools.{and_false}
 use Rattle.text_signs.proofs.Looks.{behind_digit}
 use Rattle.text_signs.proofs.parts_label.Goals as goal
 

@@ -1,7 +1,7 @@
 use Rattle.std.proofs.Common.{ℕ}
 use Rattle.std.proofs.lemmas.List.{length-replicate}
 use Rattle.rules.specs.CallFromNewick.{too_many_signs}
-use Rattle.text_laws.specs.Cells.{replicate_all_zero}
+use Rattle.text_laws.proofs.Cells.{replicate_all_zero}
 use Rattle.text_vector.proofs.read_vector.Goals as goal
 
 pub keep-requires : goal.keep-requires

@@ -1,7 +1,7 @@
 use Rattle.std.proofs.Common.{ℕ, ◌≤◌, List, length, sym, rules, replicate}
 use Rattle.std.proofs.lemmas.List.{length-replicate}
 use Rattle.blanks.specs.Kept.{kept}
-use Rattle.text_laws.specs.Cells.{replicate_all_zero}
+use Rattle.text_laws.proofs.Cells.{replicate_all_zero}
 use Rattle.text_laws.specs.Answers.{TextTook}
 use Rattle.text_signs.specs.Keeping.{SignsKept}
 use Rattle.text_vector.specs.Gives.{Taken, kept_in_front, broken_at, some_labels, array_kept, too_many, label_found, some_fault, table_read, vector_held}

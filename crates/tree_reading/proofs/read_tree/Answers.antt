@@ -1,7 +1,7 @@
 -- `tree_reading::read_tree` meets its contract: what frames the record, and then what its bytes make (specs/Gives).
 use native.Mathlib.Omega.{arith}
 use borrow.Author.Rules.{rules}
-use Rattle.archive_laws.specs.Reader.{reader_refused}
+use Rattle.archive_laws.proofs.Reader.{reader_refused}
 use Rattle.archive.specs.Finds.{part_ends, part_size}
 use Rattle.tree_reading.specs.Gives.{record_made}
 use Rattle.tree_reading.proofs.read_tree.Goals as goal

@@ -1,6 +1,6 @@
 use native.Mathlib.Omega.{arith}
 use mathlib.Core.Path.{refl, sym}
-use Rattle.grammar.specs.Length.{text_length_most}
+use Rattle.grammar.proofs.Length.{text_length_most}
 use Rattle.tree_text.specs.OrderedRows.{lefts, rights}
 use Rattle.tree_text.specs.Fits.{text_fits, text_end, text_there}
 use Rattle.tree_text.proofs.write_tree.Goals as goal

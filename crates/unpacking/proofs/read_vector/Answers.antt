@@ -1,7 +1,7 @@
 -- `unpacking::read_vector` meets its contract: the length, the leaf count and the length that it wants, and then the entries.
 use mathlib.Core.Path.{◌∙◌}
-use Rattle.accepting.specs.Guards.{no_leaf, many_leaves}
-use Rattle.record_laws.specs.FromRecord.{under_two_bytes, counted}
+use Rattle.accepting.proofs.Guards.{no_leaf, many_leaves}
+use Rattle.record_laws.proofs.FromRecord.{under_two_bytes, counted}
 use Rattle.unpacking.specs.Unpacks.{length_wrong, head_right}
 use Rattle.unpacking.proofs.read_vector.Goals as goal
 

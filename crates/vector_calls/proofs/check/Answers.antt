@@ -1,7 +1,7 @@
 use native.Mathlib.Omega.{arith}
 use mathlib.Core.Path.{refl}
 use Rattle.rules.specs.Answer as answers
-use Rattle.accepting.specs.Kept.{refused_early, full_room}
+use Rattle.accepting.proofs.Kept.{refused_early, full_room}
 use Rattle.vector_calls.proofs.Checked.{empty_refused, large_refused, fault_refused, passes}
 use Rattle.vector_calls.proofs.check.Goals as goal
 

@@ -1,6 +1,6 @@
 -- `words::eight_inside` meets its contract: four bytes and the four behind them (`word-eight`).
 use native.Mathlib.Omega.{arith}
-use Rattle.record_laws.specs.Window.{word_eight}
+use Rattle.record_laws.proofs.Window.{word_eight}
 use Rattle.words.proofs.eight_inside.Goals as goal
 
 pub returns : goal.returns

@@ -1,6 +1,6 @@
 -- `words::four_at` meets its contract: past the end the bytes are 0.
 use native.Mathlib.Omega.{arith}
-use Rattle.record_laws.specs.Window.{word_four}
+use Rattle.record_laws.proofs.Window.{word_four}
 use Rattle.words.proofs.four_at.Goals as goal
 
 pub returns : goal.returns

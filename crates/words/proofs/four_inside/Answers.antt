@@ -1,7 +1,7 @@
 -- `words::four_inside` meets its contract: the four bytes are the word (`word-four`).
 use borrow.Author.Rules.{rules}
 use mathlib.Core.Path.{sym, ◌∙◌}
-use Rattle.record_laws.specs.Window.{word_four}
+use Rattle.record_laws.proofs.Window.{word_four}
 use Rattle.words.proofs.four_inside.Goals as goal
 
 pub returns : goal.returns

@@ -1,0 +1,5 @@
+pub mod Answers
+pub mod FromTable
+pub mod FromVector
+pub mod Guards
+pub mod Kept

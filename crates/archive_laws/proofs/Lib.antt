@@ -1,0 +1,11 @@
+pub mod Again
+pub mod AsPacked
+pub mod Bare
+pub mod Cut
+pub mod Framed
+pub mod Header
+pub mod Local
+pub mod Only
+pub mod Reader
+pub mod Writer
+pub mod Written

@@ -1,0 +1,6 @@
+pub mod Counted
+pub mod Entries
+pub mod Inner
+pub mod Numbers
+pub mod Rising
+pub mod Totals

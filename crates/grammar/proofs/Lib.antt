@@ -1,0 +1,13 @@
+pub mod Bounds
+pub mod Closed
+pub mod Complete
+pub mod Decimal
+pub mod Faults
+pub mod Labels
+pub mod Length
+pub mod Once
+pub mod Pairs
+pub mod Sound
+pub mod Stores
+pub mod Unique
+pub mod Written

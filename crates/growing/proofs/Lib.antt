@@ -1,0 +1,10 @@
+pub mod Clusters
+pub mod Collapse
+pub mod Complete
+pub mod Fact1
+pub mod Graft
+pub mod Grown
+pub mod OrderOf
+pub mod Part
+pub mod Ready
+pub mod Shortened

@@ -1,0 +1,7 @@
+pub mod Chains
+pub mod Clades
+pub mod Collapse
+pub mod Count
+pub mod Falls
+pub mod Forest
+pub mod Larger

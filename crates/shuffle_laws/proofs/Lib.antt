@@ -1,0 +1,9 @@
+pub mod Count
+pub mod Falling
+pub mod Handed
+pub mod Permutation
+pub mod Renaming
+pub mod Rows
+pub mod Shuffled
+pub mod Taken
+pub mod Zipped
