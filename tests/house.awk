@@ -2,34 +2,35 @@
 # - A crate depends on its own layer and on lower ones (crates.txt has the layers), names no crate that it does not declare, and
 #   declares none that it does not name. What a declared crate hands on, by `pub use`, need not be declared.
 # - Something refers to each definition and lemma: another one, a file of Rattle, a page of docs/, README.md or a Lib.antt. Samples,
-#   in files named Samples, serve no other proof, and the prover itself reads a proof file's NAME-spec.
-# - A file uses each name that it imports. (Modules imported `as` something also shorten what the prover prints, and are left alone.)
+#   in files named Samples, serve no other proof. The prover itself reads what a proof file says of a goal, `returns : goal.returns`,
+#   and the NAME_spec of a Proof.antt.
+# - A file uses each name that it imports. (A module that is imported whole, by its name or `as` another, also shortens what the prover
+#   prints, and is left alone.)
 # - No line has more than 300 signs. Each file has a head comment, but for proof files and Lib.antt, which lists modules.
 # - A must-fail edit has letters, digits and _ in its name, and what it replaces stands once. Each crate below the last layer has one,
 #   unless there is nothing in it to edit.
-# - What a page cites as crate::item, as `crate File.name` or, of an edit, as crate/edit is there. (docs/CHANGES.md tells of the past.)
+# - What a page cites as crate::item, as `crate File.name` or, of an edit, as crate/edit is there. (docs/CHANGES.md and docs/PORT.md tell
+#   of the past.)
 # It reads crates.txt, the pages, the edits, and every .rt and .antt file, in this order, with bytes for signs (LC_ALL=C); then any awk
-# will do. It is text that is read: names are told apart by the file that an import names, and no further.
+# will do. It is text that is read: names are told apart by the file that an import names, and no further. An import is one line.
 
 function found(where, what) { print where ": " what; findings++ }
 
-# The file of ours that a module's name means: Rattle·rules.specs.Tree, and inside the crate Rattle·rules·specs.specs.Tree, is
-# rules/specs/Tree.
+# The file of ours that a module's name means: Rattle.rules.specs.Tree is rules/specs/Tree.
 function file_of(module) {
-    if (!sub(/^Rattle·/, "", module)) return ""
-    sub(/(·specs|·proofs)?\./, "/", module)
+    if (!sub(/^Rattle\./, "", module)) return ""
     gsub(/\./, "/", module)
     return module
 }
 
-# How a name is written where it is used: _+_ as +. The parts go to part[1..].
+# How a name is written where it is used: ◌+◌ as +. The parts go to part[1..].
 function parts_of(name) {
-    if (name !~ /_/ || name ~ /^[A-Za-z0-9_]+$/) { part[1] = name; return 1 }
-    gsub(/^_+|_+$/, "", name)
-    return split(name, part, /_+/)
+    if (name !~ /◌/) { part[1] = name; return 1 }
+    gsub(/^(◌)+|(◌)+$/, "", name)
+    return split(name, part, /(◌)+/)
 }
 
-# ---- crates.txt: the layers are its lines '#: NAME', from the lowest; '#: NAME not LOWER' bars one.
+# ---- crates.txt: the layers are its lines '#: NAME', from the lowest; '#: NAME not LOWER' bars one. A crate's name may have a kind behind it.
 function read_crates(    k, name) {
     if ($1 == "#:") {
         layer = $2
@@ -39,20 +40,21 @@ function read_crates(    k, name) {
     sub(/#.*/, "")
     if (!(k = index($0, ":"))) return
     name = substr($0, 1, k - 1)
+    sub(/[ \t].*/, "", name)
     crates[++crate_count] = name
     depends[name] = substr($0, k + 1)
     layer_of[name] = layer
     if (layer == "") found("crates.txt:" FNR, name " stands in no layer")
 }
 
-# ---- the pages: what stands between backticks is cited, and so is any word with a hyphen.
+# ---- the pages: what stands between backticks is cited, and so is any word with an underscore.
 function read_page(    k, n, quoted, text) {
     n = split($0, quoted, /`/)
     for (k = 2; k <= n; k += 2) {
         cite(quoted[k], "")
         if (quoted[k] ~ /^[a-z0-9_]+ [A-Z][A-Za-z0-9]*\.[^ .]+$/) cite_place(quoted[k])
     }
-    cite($0, "-")
+    cite($0, "_")
     n = split($0, quoted, /[ ,;:.|()`]+/)
     for (k = 1; k <= n; k++) {
         text = quoted[k]
@@ -63,7 +65,7 @@ function read_page(    k, n, quoted, text) {
 }
 
 function cite_place(what) {
-    if (FILENAME ~ /CHANGES/) return
+    if (FILENAME ~ /CHANGES|PORT/) return
     places++
     place_name[places] = what
     place_page[places] = FILENAME ":" FNR
@@ -111,6 +113,7 @@ function start_file() {
     crate = here
     sub(/\/.*/, "", crate)
     code = FILENAME ~ /\.rt$/
+    proof = FILENAME ~ /\/proofs\/.*\/(Invariants|Answers|Proof)\.antt$/
     files++
     block = 0
     modules = 0
@@ -132,7 +135,7 @@ function read_line(    signs, line) {
     if (length(signs) > 300) found(FILENAME ":" FNR, "a line of " length(signs) " signs; 300 are the most")
     if (NF && !headed) {
         headed = 1
-        if ($1 !~ /^(\/\/|--)/ && !(FILENAME ~ /\/(Lib|Proof)\.antt$/)) found(FILENAME, "no head comment")
+        if ($1 !~ /^(\/\/|--)/ && !proof && FILENAME !~ /\/Lib\.antt$/) found(FILENAME, "no head comment")
     }
     if (FILENAME ~ /\/Lib\.antt$/ && $1 ~ /^--/) cite($0, "")
     line = $0
@@ -149,9 +152,9 @@ function read_line(    signs, line) {
 # The crates that a line names.
 function name_crates(line,    text, name) {
     text = line
-    while (match(text, /Rattle·[A-Za-z0-9_]+/)) {
+    while (match(text, /Rattle\.[A-Za-z0-9_]+/)) {
         name = substr(text, RSTART, RLENGTH)
-        sub(/^Rattle·/, "", name)
+        sub(/^Rattle\./, "", name)
         text = substr(text, RSTART + RLENGTH)
         names(name)
     }
@@ -175,7 +178,7 @@ function names(name) {
 
 function declares(crate, name) { return index(depends[crate] " ", " " name " ") }
 
-# An import: use M.{a, b as c}, use M as d, use m::A. What `pub use` hands on is not for the file itself.
+# An import: use M.{a, b as c}, use M as d, use M, use m::A. What `pub use` hands on is not for the file itself.
 function read_import(line,    k, n, list, module, item, old) {
     sub(/;[ \t]*$/, "", line)
     if (sub(/^ *pub use /, "", line)) {
@@ -197,7 +200,12 @@ function read_import(line,    k, n, list, module, item, old) {
     } else if (match(line, / as /)) {
         alias[substr(line, RSTART + 4)] = file_of(substr(line, 1, RSTART - 1))
         return
-    } else return
+    } else {
+        module = line
+        sub(/.*\./, "", line)
+        alias[line] = file_of(module)
+        return
+    }
     gsub(/[{}]/, "", list)
     n = split(list, item, /, */)
     for (k = 1; k <= n; k++) {
@@ -228,7 +236,7 @@ function read_block(line,    text, depth, first, kind) {
     text = substr(text, depth + 1)
     first = text
     sub(/[ \t].*/, "", first)
-    if (block && (depth > block_depth || first == block_name[block] || first == "unfolding" || first ~ /^\)/)) {
+    if (block && (depth > block_depth || first == block_name[block] || first == "unfolding" || first ~ /^[)}\]]/)) {
         if (block_kind != "" && match(text, /^(pub )?[^ (){}]+ :/)) own_name(text)
         return
     }
@@ -241,16 +249,26 @@ function read_block(line,    text, depth, first, kind) {
         if (text ~ /^(record|data)/) kind = first
         text = substr(text, RLENGTH + 1)
     }
-    if (text !~ /^[^ (){}=→]+( [^=]*)? :( |$)/ && text !~ /^[^ (){}=→]+( [^=]*)? where$/) return
+    if (text !~ /^[^ (){}=]+( [^=]*)? :( |$)/ && text !~ /^[^ (){}=]+( [^=]*)? where$/) return
     sub(/ .*/, "", text)
+    if (text ~ /→/) return
     block = ++blocks
     block_depth = depth
     block_kind = kind
     block_name[block] = text
     block_file[block] = here
     block_place[block] = FILENAME ":" FNR
+    block_read[block] = proof && is_read(text, $0)
     if (FILENAME ~ /\/specs\//) bodies[crate]++
     own_name(text)
+}
+
+# The prover reads what a proof file says of a goal, under the goal's own name in a module that rt writes, and a walk's NAME_spec.
+function is_read(name, line,    of) {
+    if (FILENAME ~ /\/Proof\.antt$/ && name ~ /_spec$/) return 1
+    sub(/^.* : /, "", line)
+    of = line
+    return sub(/\..*/, "", of) && line == of "." name && alias[of] ~ /\/(Goals|Given)$/
 }
 
 # One more name of the block: its own, a constructor's, a field's.
@@ -265,14 +283,13 @@ function own_name(text,    k, n) {
 
 # The words of a line that is no import. A word a.b also is what b is in the file that a stands for.
 function read_words(line,    k, j, n, m, word, step, module) {
-    gsub(/⌜|⌝/, " ", line)
     n = split(line, word, /[ \t(){},;"]+/)
     for (k = 1; k <= n; k++) {
         m = split(word[k], step, /\./)
         for (j = 1; j <= m; j++) count(step[j])
         if (m < 2) continue
         if (step[1] in alias) refers[alias[step[1]], step[2]] = 1
-        if (step[1] ~ /^Rattle·/) {
+        if (step[1] == "Rattle") {
             module = word[k]
             sub(/\.[^.]*$/, "", module)
             refers[file_of(module), step[m]] = 1
@@ -340,11 +357,11 @@ function judge_imports(    k, j, n, seen) {
     }
 }
 
-# Alive: a name of the definition is used in its file outside of it, or imported, or cited. A sample serves no other proof, and a proof
-# file's NAME-spec is read by the prover.
+# Alive: a name of the definition is used in its file outside of it, or imported, or cited. A sample serves no other proof, and the prover
+# reads what a proof file says of a goal.
 function judge_blocks(    b, k, j, m, n, name, alive) {
     for (b = 1; b <= blocks; b++) {
-        if (block_file[b] ~ /Samples$/ || block_file[b] ~ /\/Proof$/ && block_name[b] ~ /-spec$/) continue
+        if (block_file[b] ~ /Samples$/ || block_read[b]) continue
         alive = 0
         n = split(block_names[b], name, " ")
         for (k = 1; k <= n; k++) {
