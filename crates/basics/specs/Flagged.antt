@@ -1,12 +1,7 @@
 -- A flag for each name says which names were used. Main definition: Flagged.
-use Rattle.std.specs.Prelude.{Bool, List, [], ◌∷◌, ◌≢◌, ◌≡◌, length, get_or, set}
-use Rattle.std.proofs.Math.Bool.{true, false, cond}
-use Rattle.std.proofs.Math.Option.{none, some}
-use Rattle.std.proofs.Math.Path.{refl}
-use Rattle.std.proofs.Common.{sym, ◌∙◌, arith, length-set, get_or-set_same, get_or-set_other, eq-eqb, ne_eqb}
-use Prim.Native.Nat.{ℕ, zero, ◌≤◌, ◌<◌}
+use Rattle.std.specs.Prelude.{List, ◌≡◌, length, get_or}
+use Prim.Native.Nat.{ℕ, ◌<◌}
 use Rattle.rules.specs.Building.{member}
-use Rattle.rules.specs.Names.{used_before, name_fault}
 use Rattle.basics.specs.Sums.{one}
 
 -- the flag of a name is 1 where it was used, else 0

@@ -1,6 +1,5 @@
 -- The sum of f 0 to f (n-1), and how many numbers below n pass a test. Main definitions: one, sum_below.
-use Rattle.std.specs.Prelude.{◌≡◌, refl, Bool, true, false, cond, ℕ, zero, suc, ◌+◌, ◌≤◌, ◌<◌, eqb, ltb}
-use Rattle.std.proofs.Common.{ap₂, arith, lt-ltb, le-ltb, eq-eqb, ne_eqb}
+use Rattle.std.specs.Prelude.{Bool, cond, ℕ, zero, suc, ◌+◌}
 
 -- 1 where a test passes, else 0
 unfoldable pub one : Bool → ℕ

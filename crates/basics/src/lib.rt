@@ -1,3 +1,2 @@
-#![tactic(auto)]
-
 // Small laws that many crates need: no code here.
+#![tactic(auto)]

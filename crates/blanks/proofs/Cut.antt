@@ -1,5 +1,5 @@
 -- Where a text begins with bytes that end in a digit, some text begins so and goes on with no digit. Main results: cut_node, cut_text.
-use Rattle.std.specs.Prelude.{◌≡◌, true, false, ◌⊎◌, ℕ, suc, ◌+◌, ◌≤◌, eqb, length}
+use Rattle.std.specs.Prelude.{◌≡◌, true, false, ℕ, suc, ◌+◌, ◌≤◌, eqb, length}
 use Rattle.std.proofs.Math.Path.{refl, subst}
 use Rattle.std.proofs.Common.{ap, ap₂, sym, ◌∙◌, true≢false, inl, inr, arith, length-append}
 use mathlib.Core.List.{List, [], ◌∷◌, ◌++◌, append_assoc}

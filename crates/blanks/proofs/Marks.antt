@@ -1,9 +1,9 @@
 -- The labels that blanks part, found byte by byte by what stands before each. Main results: blank_no_digit, signs_blank, signs_sign, signs_append,
 -- parted_next, parted_append, last_digit, digit_at_end.
-use Rattle.std.specs.Prelude.{◌≡◌, refl, Bool, true, false, ◌&&◌, ◌||◌, cond, List, [], ◌∷◌, ◌++◌, ℕ, suc, ◌≤◌, eqb, leb, length}
+use Rattle.std.specs.Prelude.{◌≡◌, refl, Bool, true, false, ◌||◌, cond, List, [], ◌∷◌, ◌++◌, ℕ, suc, ◌≤◌, eqb, leb, length}
 use Rattle.std.proofs.Common.{ap, sym, ◌∙◌, true≢false, arith, eqb-true, leb-true}
 use Rattle.rules.specs.Newick.{is_digit}
-use Rattle.rules.specs.Sent.{blank, signs, blank_first, digit_first, parted}
+use Rattle.rules.specs.Sent.{blank, signs}
 use Rattle.basics.proofs.Bools.{and_both}
 use Rattle.blanks.specs.Marks.{Last, other, digit, gap, past, at_gap, behind_digit, next, parts, parted_from, last_of, ends_in_digit}
 

@@ -1,5 +1,5 @@
 -- The places of the kept signs in the bytes as sent, and what stands before them. Main results: place_blank, place_first, place_later, place_of_lem.
-use Rattle.std.specs.Prelude.{◌≡◌, refl, Bool, true, false, cond, List, [], ◌∷◌, ℕ, zero, suc, ◌≤◌, ◌<◌, length, take}
+use Rattle.std.specs.Prelude.{◌≡◌, refl, Bool, true, false, List, [], ◌∷◌, ℕ, zero, suc, ◌≤◌, ◌<◌, length, take}
 use Rattle.std.proofs.Common.{ap, sym, ◌∙◌, arith}
 use Rattle.rules.specs.Sent.{blank, signs}
 use Rattle.blanks.specs.Marks.{Last, next, parts, parted_from}

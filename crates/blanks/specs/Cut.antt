@@ -1,11 +1,7 @@
 -- Where a text begins with bytes that end in a digit, some text begins so and goes on with no digit. Main definitions: Going.
-use Rattle.std.specs.Prelude.{◌≡◌, true, false, ◌⊎◌, ℕ, suc, ◌+◌, ◌≤◌, eqb, length}
-use Rattle.std.proofs.Math.Path.{refl, subst}
-use Rattle.std.proofs.Common.{ap, ap₂, sym, ◌∙◌, true≢false, inl, inr, arith, length-append}
-use mathlib.Core.List.{List, [], ◌∷◌, ◌++◌, append_assoc}
-use Rattle.rules.specs.Newick.{is_digit, all_digits, value_from, levels, Label, nought, number, Node, label, pair, pair_text, Text, text}
-use Rattle.rules.specs.Tree.{Tree, leaf, node}
-use Rattle.basics.proofs.Bools.{and_both}
+use Rattle.std.specs.Prelude.{◌≡◌, ◌⊎◌, ℕ}
+use mathlib.Core.List.{List, ◌∷◌, ◌++◌}
+use Rattle.rules.specs.Tree.{Tree}
 use Rattle.grammar.specs.Complete.{NoDigit}
 
 -- a byte of two lists in a row is a byte of the first or of the second

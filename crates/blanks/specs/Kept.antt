@@ -1,8 +1,7 @@
 -- The signs that a reader keeps of bytes as sent: those up to the first digit that parts a label. Main definitions: kept_from, kept.
-use Rattle.std.specs.Prelude.{◌≡◌, refl, Bool, true, false, ◌||◌, cond, List, [], ◌∷◌, ℕ, ◌≤◌, length}
-use Rattle.std.proofs.Common.{ap, sym, subst, ◌∙◌, true≢false, arith}
-use Rattle.rules.specs.Sent.{blank, signs}
-use Rattle.blanks.specs.Marks.{Last, other, digit, gap, next, parts, at_gap, behind_digit, parted_from, ends_in_digit}
+use Rattle.std.specs.Prelude.{cond, List, [], ◌∷◌, ℕ}
+use Rattle.rules.specs.Sent.{blank}
+use Rattle.blanks.specs.Marks.{Last, other, next, parts}
 
 unfoldable pub kept_from : Last → List ℕ → List ℕ
 unfolding blank parts next

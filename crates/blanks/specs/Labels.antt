@@ -1,15 +1,9 @@
 -- The labels of bytes as sent are those of their signs, where no label is parted: so a text as sent is labelled as its tree.
-use Rattle.std.specs.Prelude.{◌≡◌, refl, Bool, true, false, cond, List, [], ◌∷◌, map, ℕ, ◌+◌, ◌-◌, ◌*◌}
-use Rattle.std.proofs.Common.{ap, ap₂, sym, subst, ◌∙◌, true≢false}
+use Rattle.std.specs.Prelude.{List, ◌∷◌, ℕ}
 use Rattle.std.proofs.Math.Option.{Option, none, some}
 use Rattle.rules.specs.Names.{Placed}
-use Rattle.rules.specs.Newick.{is_digit, with_digit, ending, labels_from, labels_of}
-use Rattle.rules.specs.Sent.{blank, signs, parted, SentText}
-use Rattle.rules.specs.Tree.{Tree}
-use Rattle.basics.proofs.Bools.{or_no}
-use Rattle.grammar.specs.Labels.{value, LabelledAs}
-use Rattle.grammar.proofs.Labels.{text_labels}
-use Rattle.blanks.specs.Marks.{Last, other, digit, gap, past, at_gap, next, parts, parted_from}
+use Rattle.rules.specs.Newick.{labels_from}
+use Rattle.blanks.specs.Marks.{Last, other, digit, gap}
 
 -- the label y that is being read in the signs, by what stands before
 abbrev pub held : Last → Placed → Option Placed

@@ -1,10 +1,8 @@
 -- The labels that blanks part, found byte by byte by what stands before each. Main definitions: Last, next, parts, parted_from, last_of,
 -- ends_in_digit.
-use Rattle.std.specs.Prelude.{◌≡◌, refl, Bool, true, false, ◌&&◌, ◌||◌, cond, List, [], ◌∷◌, ◌++◌, ℕ, suc, ◌≤◌, eqb, leb, length}
-use Rattle.std.proofs.Common.{ap, sym, ◌∙◌, true≢false, arith, eqb-true, leb-true}
+use Rattle.std.specs.Prelude.{Bool, true, false, ◌&&◌, ◌||◌, cond, List, [], ◌∷◌, ℕ}
 use Rattle.rules.specs.Newick.{is_digit}
-use Rattle.rules.specs.Sent.{blank, signs, blank_first, digit_first, parted}
-use Rattle.basics.proofs.Bools.{and_both}
+use Rattle.rules.specs.Sent.{blank, blank_first, digit_first, parted}
 
 -- What stands before a byte: no digit; a digit; a digit and then blanks.
 pub data Last : Type 0 where

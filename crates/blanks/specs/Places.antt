@@ -1,8 +1,7 @@
 -- The places of the kept signs in the bytes as sent, and what stands before them. Main definitions: place_of, There, PlaceOf.
-use Rattle.std.specs.Prelude.{◌≡◌, refl, Bool, true, false, cond, List, [], ◌∷◌, ℕ, zero, suc, ◌≤◌, ◌<◌, length, take}
-use Rattle.std.proofs.Common.{ap, sym, ◌∙◌, arith}
+use Rattle.std.specs.Prelude.{◌≡◌, true, false, cond, List, [], ◌∷◌, ℕ, zero, suc, ◌<◌, length, take}
 use Rattle.rules.specs.Sent.{blank, signs}
-use Rattle.blanks.specs.Marks.{Last, next, parts, parted_from}
+use Rattle.blanks.specs.Marks.{Last, parted_from}
 use Rattle.blanks.specs.Kept.{kept_from}
 
 -- the place in the bytes as sent of sign number k; their length where there are no more signs

@@ -2,9 +2,8 @@
 -- smallest_is_unused, smaller_are_used, unused_below, used_below, labels_apart.
 use Rattle.std.specs.Prelude.{◌≡◌, refl, Bool, true, false, ◌&&◌, ◌||◌, cond, List, [], ◌∷◌, ℕ, zero, suc, ◌+◌, ◌≤◌, ◌<◌, eqb, ltb, length}
 use Rattle.std.proofs.Common.{sym, ap, ◌∙◌, true≢false, arith, ltb-true, ltb-false, eqb-true, lt-ltb, le-ltb, eq-eqb}
-use Rattle.std.proofs.Math.Option.{some}
 use Rattle.std.proofs.lemmas.Bool.{eqb-false}
-use Rattle.rules.specs.Building.{Merge, State, start, below, member, smallest_from, smallest_unused, next, merge}
+use Rattle.rules.specs.Building.{Merge, State, start, below, member, smallest_from, smallest_unused, merge}
 use Rattle.basics.proofs.Bools.{or_right}
 use Rattle.building.specs.Labels.{at_least, Reached, starts, goes, Apart}
 

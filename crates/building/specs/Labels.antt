@@ -1,11 +1,8 @@
 -- What a leaf calls the clusters it sees: the next label is the smallest it has not used, and no two clusters have the same. Main definitions:
 -- Reached.
-use Rattle.std.specs.Prelude.{◌≡◌, refl, Bool, true, false, ◌&&◌, ◌||◌, cond, List, [], ◌∷◌, ℕ, zero, suc, ◌+◌, ◌≤◌, ◌<◌, eqb, ltb, length}
-use Rattle.std.proofs.Common.{sym, ap, ◌∙◌, true≢false, arith, ltb-true, ltb-false, eqb-true, lt-ltb, le-ltb, eq-eqb}
+use Rattle.std.specs.Prelude.{◌≡◌, true, cond, List, [], ◌∷◌, ℕ, ◌+◌, ◌<◌, ltb}
 use Rattle.std.proofs.Math.Option.{some}
-use Rattle.std.proofs.lemmas.Bool.{eqb-false}
-use Rattle.rules.specs.Building.{Merge, State, start, below, member, smallest_from, smallest_unused, next, merge}
-use Rattle.basics.proofs.Bools.{or_right}
+use Rattle.rules.specs.Building.{Merge, State, start, member, next, merge}
 
 -- how many numbers of the list are x or more
 unfoldable pub at_least : ℕ → List ℕ → ℕ

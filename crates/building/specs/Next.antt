@@ -1,9 +1,6 @@
 -- One step of the building rule: what a leaf sees, and that the next merge is the one that 01 says. Main definitions: CanMerge, Agree.
-use Rattle.std.specs.Prelude.{◌≡◌, refl, ◌≢◌, Bool, true, false, ◌&&◌, cond, ℕ, suc, ◌≤◌, ◌<◌, eqb, ltb}
-use Rattle.std.proofs.Common.{sym, subst, arith, ltb-true, ltb-false, eqb-true, eq-eqb, ne_eqb}
-use Rattle.std.proofs.Math.Option.{none, some, map, map-eq-none_iff, map-eq-some_iff, none-ne-some, some-injective}
-use Rattle.rules.specs.Building.{Merge, State, sees, merge_of, next, merge}
-use Rattle.basics.proofs.Bools.{and_left, and_right, and_false}
+use Rattle.std.specs.Prelude.{◌≡◌, true, ℕ, ◌<◌}
+use Rattle.rules.specs.Building.{Merge, State}
 
 -- Leaf m .1 "still names a cluster and sees one labelled v(i)", the cluster m .0.
 pub record CanMerge (v : ℕ → ℕ) (s : State) (n : ℕ) (m : Merge) : Type 0 where

@@ -1,3 +1,2 @@
-#![tactic(auto)]
-
 // The laws of the building rule: definitions and theorems only, no code.
+#![tactic(auto)]

@@ -50,12 +50,7 @@ pub fn blathersike_to_table(v: &[u16], out: &mut [u16], back: &mut [u64; 2])
 }
 
 // Merge table to vector.
-pub fn blathersike_from_table(
-    leaves: usize,
-    rows: &[u16],
-    out: &mut [u16],
-    back: &mut [u64; 2],
-)
+pub fn blathersike_from_table(leaves: usize, rows: &[u16], out: &mut [u16], back: &mut [u64; 2])
     ensures { Hands (from_table_call leaves rows.now) out.old back.new out.new }
 {
     hand_back(trees::from_table(leaves, rows, out), back);
@@ -90,12 +85,7 @@ pub fn blathersike_unpack(s: &[u8], out: &mut [u16], back: &mut [u64; 2])
 }
 
 // Queue Shuffle.
-pub fn blathersike_shuffle(
-    v: &[u16],
-    new: &mut [u16],
-    out: &mut [u16],
-    back: &mut [u64; 2],
-)
+pub fn blathersike_shuffle(v: &[u16], new: &mut [u16], out: &mut [u16], back: &mut [u64; 2])
     ensures { Hands (shuffle_call v.now) (new.old, out.old) back.new (new.new, out.new) }
 {
     hand_back(trees::shuffle(v, new, out), back);
@@ -121,12 +111,7 @@ pub fn blathersike_write_archive(
 }
 
 // A tree of an archive to its vector.
-pub fn blathersike_read_tree(
-    archive: &[u8],
-    tree: usize,
-    out: &mut [u16],
-    back: &mut [u64; 2],
-)
+pub fn blathersike_read_tree(archive: &[u8], tree: usize, out: &mut [u16], back: &mut [u64; 2])
     ensures { Hands (read_tree_call archive.now tree) out.old back.new out.new }
 {
     hand_back(trees::read_tree(archive, tree, out), back);

@@ -10,7 +10,6 @@ use Rattle.rules.specs.declared.Clade.{Clade as Entry}
 use Rattle.rules.specs.CladeTable.{leaf_set, inner, occurs, entry_of, entries, all_inner, rising, clade_table}
 use Rattle.basics.proofs.Bools.{both, or_left}
 use Rattle.basics.proofs.Cases.{by_lt, by_eq, by_test}
-use Rattle.clade_laws.specs.Inner.{PairIn}
 use Rattle.clade_laws.proofs.Inner.{member_head, member_tail, member_cases, append_left, append_right, append_cases, inner_node}
 use Rattle.clade_laws.specs.Rising.{From, Rises}
 use Rattle.clade_laws.proofs.Rising.{from_ge, from_rises, from_unique, rising_from, rising_member}

@@ -1,6 +1,6 @@
 -- The inner leaf sets of a tree: they are the numbers of its clades of two leaves or more, n-1 of them, pairwise different. Main results:
 -- inner_clades, pair_occurs, inner_length, inner_different, inner_node, inner_lt.
-use Rattle.std.specs.Prelude.{◌≡◌, refl, ◌≢◌, ◌⊎◌, ◌↔◌, Bool, true, false, ◌||◌, List, [], ◌∷◌, ◌++◌, ℕ, ◌+◌, ◌-◌, ◌^◌, ◌≤◌, ◌<◌, eqb, length}
+use Rattle.std.specs.Prelude.{◌≡◌, refl, ◌⊎◌, ◌↔◌, Bool, true, false, ◌||◌, List, [], ◌∷◌, ◌++◌, ℕ, ◌+◌, ◌-◌, ◌^◌, ◌≤◌, ◌<◌, eqb, length}
 use Rattle.std.proofs.Common.{sym, ap, ◌∙◌, inl, ⊎_elim, true≢false, arith, pow_pos, length-append, ltb-true, eqb-true, eq-eqb}
 use Rattle.std.proofs.Math.Logic.{inr}
 use Rattle.std.specs.Int.Count.{ones}

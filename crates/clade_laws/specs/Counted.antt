@@ -1,11 +1,6 @@
 -- In how many trees, by 01's clades as sets: `occurs` counts the trees that have the clade. Main definition: Counted.
-use Rattle.std.specs.Prelude.{◌≡◌, refl, Bool, true, false, cond, List, [], ◌∷◌, ℕ, suc, ◌+◌}
-use Rattle.std.proofs.Common.{sym, ap, true≢false, arith}
-use Rattle.rules.specs.Building.{member}
-use Rattle.rules.specs.Tree.{Tree, node, has, Distinct, Clade}
-use Rattle.rules.specs.CladeTable.{leaf_set, inner, occurs}
-use Rattle.clade_laws.specs.Inner.{CladeNumber}
-use Rattle.clade_laws.specs.Entries.{Each}
+use Rattle.std.specs.Prelude.{List, [], ◌∷◌, ℕ, suc}
+use Rattle.rules.specs.Tree.{Tree}
 
 -- k of the trees have the property
 pub data Counted (P : Tree → Type 0) : List Tree → ℕ → Type 0 where

@@ -1,17 +1,13 @@
 -- The clade table: it rises, has exactly the clades that occur, their sizes and counts, and is the only such list. Main definitions: IsTable, InSome,
 -- Each, leaves_of, count_in.
-use Rattle.std.specs.Prelude.{◌≡◌, refl, ◌⊎◌, ◌↔◌, Bool, true, false, cond, List, [], ◌∷◌, ◌++◌, ℕ, suc, ◌+◌, ◌≤◌, eqb, length, get_or, drop}
-use Rattle.std.proofs.Common.{sym, ap, ap₂, ◌∙◌, inl, inr, ⊎_elim, true≢false, arith, eqb-true, eq-eqb, ne_eqb}
+use Rattle.std.specs.Prelude.{◌≡◌, ◌⊎◌, ◌↔◌, true, cond, List, [], ◌∷◌, ℕ, eqb}
 use Rattle.std.specs.Int.Count.{ones}
-use Rattle.std.proofs.lemmas.Bool.{eqb-false}
 use Rattle.rules.specs.Building.{member}
-use Rattle.rules.specs.Tree.{Tree, size, Distinct}
+use Rattle.rules.specs.Tree.{Tree, size}
 use Rattle.rules.specs.declared.Clade.{Clade as Entry}
-use Rattle.rules.specs.CladeTable.{leaf_set, inner, occurs, entry_of, entries, all_inner, rising, clade_table}
-use Rattle.basics.proofs.Bools.{both, or_left}
-use Rattle.basics.proofs.Cases.{by_lt, by_eq, by_test}
+use Rattle.rules.specs.CladeTable.{inner, occurs}
 use Rattle.clade_laws.specs.Inner.{PairIn}
-use Rattle.clade_laws.specs.Rising.{From, Rises}
+use Rattle.clade_laws.specs.Rising.{From}
 
 -- what holds of each element
 unfoldable pub Each : {A : Type 0} → (A → Type 0) → List A → Type 0

@@ -1,17 +1,8 @@
 -- The inner leaf sets of a tree: they are the numbers of its clades of two leaves or more, n-1 of them, pairwise different. Main definitions:
 -- TwoOrMore, CladeNumber, Different.
-use Rattle.std.specs.Prelude.{◌≡◌, refl, ◌≢◌, ◌⊎◌, ◌↔◌, Bool, true, false, ◌||◌, List, [], ◌∷◌, ◌++◌, ℕ, ◌+◌, ◌-◌, ◌^◌, ◌≤◌, ◌<◌, eqb, length}
-use Rattle.std.proofs.Common.{sym, ap, ◌∙◌, inl, ⊎_elim, true≢false, arith, pow_pos, length-append, ltb-true, eqb-true, eq-eqb}
-use Rattle.std.proofs.Math.Logic.{inr}
-use Rattle.std.specs.Int.Count.{ones}
+use Rattle.std.specs.Prelude.{◌≡◌, ◌≢◌, ◌⊎◌, Bool, true, false, List, [], ◌∷◌, ℕ}
 use Rattle.rules.specs.Building.{member}
-use Rattle.rules.specs.Tree.{Tree, leaf, node, has, size, least, Distinct, LeavesBelow, Clade}
-use Rattle.rules.specs.CladeTable.{leaf_set, inner}
-use Rattle.basics.proofs.Bools.{or_cases, or_left, or_right}
-use Rattle.basics.proofs.Cases.{by_test}
-use Rattle.clades.proofs.Leaves.{has_left, has_right, least_has, least_apart}
-use Rattle.clades.proofs.Same.{clade_in, clade_some, clade_cong}
-use Rattle.clades.proofs.Size.{size_some, size_below}
+use Rattle.rules.specs.Tree.{Tree, leaf, node, Clade}
 use Rattle.clade_laws.specs.Numbers.{Stands}
 
 -- a set with two leaves or more

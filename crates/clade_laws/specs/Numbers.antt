@@ -1,18 +1,7 @@
 -- A number stands for a set of leaves: leaf x is bit x. Main definitions: bit, Stands.
-use Rattle.std.specs.Prelude.{◌≡◌, ◌↔◌, Bool, true, false, cond, ℕ, zero, suc, ◌+◌, ◌*◌, ◌/◌, ◌%◌, ◌^◌, ◌≤◌, ◌<◌, eqb}
-use Rattle.std.proofs.Math.Path.{refl}
-use Rattle.std.proofs.Common.{sym, ap, ap₂, ◌∙◌, ⊎_elim, true≢false, arith, pow-suc, shr-shr, eqb-true, eq-eqb, ne_eqb}
-use Rattle.std.proofs.lemmas.Nat.{shr_le}
-use Rattle.std.specs.Int.Count.{ones, ones_step}
-use Rattle.std.proofs.lemmas.Bool.{eqb-false}
-use Rattle.rules.specs.Tree.{Tree, leaf, node, has, size, Distinct}
-use Rattle.rules.specs.CladeTable.{leaf_set}
-use Rattle.basics.proofs.Cases.{by_lt, by_test}
-use Rattle.basics.specs.Sums.{one, sum_below}
-use Rattle.basics.proofs.Sums.{one_le, sum_cong}
-use Rattle.clades.proofs.Leaves.{has_cases}
-use Rattle.clades.specs.Size.{sum_leaves}
-use Rattle.clades.proofs.Size.{leaves_sum, size_sum}
+use Rattle.std.specs.Prelude.{◌≡◌, Bool, ℕ, zero, suc, ◌+◌, ◌*◌, ◌/◌, ◌%◌, ◌^◌, eqb}
+use Rattle.rules.specs.Tree.{Tree, leaf, node}
+use Rattle.basics.specs.Sums.{one}
 
 -- bit x of a number
 unfoldable pub bit : ℕ → ℕ → Bool

@@ -1,15 +1,7 @@
 -- The counts add up to trees times (n-1); the order of the trees does not count. Main definitions: sum_counts, Reordered.
-use Rattle.std.specs.Prelude.{◌≡◌, refl, Bool, true, false, cond, ◌||◌, List, [], ◌∷◌, ℕ, suc, ◌+◌, ◌-◌, ◌*◌, ◌≤◌, eqb, length}
-use Rattle.std.proofs.Common.{sym, ap, ap₂, ◌∙◌, inl, inr, ⊎_elim, arith, suc-mul, eqb-true}
-use Rattle.std.proofs.Math.Bool.{true≢false}
-use Rattle.std.proofs.lemmas.Bool.{eqb-false}
-use Rattle.rules.specs.Building.{member}
-use Rattle.rules.specs.Tree.{Tree, LeavesBelow}
+use Rattle.std.specs.Prelude.{List, [], ◌∷◌, ℕ, ◌+◌}
+use Rattle.rules.specs.Tree.{Tree}
 use Rattle.rules.specs.declared.Clade.{Clade as Entry}
-use Rattle.rules.specs.CladeTable.{inner, occurs, clade_table}
-use Rattle.basics.proofs.Cases.{by_test}
-use Rattle.clade_laws.specs.Inner.{Different}
-use Rattle.clade_laws.specs.Entries.{Each, leaves_of, IsTable, InSome}
 
 -- the counts of a table, added up
 unfoldable pub sum_counts : List Entry → ℕ

@@ -1,10 +1,7 @@
 -- The form of a tree: each pair turned so that the smaller least leaf stands first. Clades fix a tree up to turning pairs. Main definitions: join,
 -- form, Turned.
-use Rattle.std.specs.Prelude.{◌≡◌, refl, ◌≢◌, ◌⊎◌, ◌↔◌, Bool, true, false, cond, ℕ, ◌+◌, ◌<◌, min, ltb}
-use Rattle.std.proofs.Common.{sym, ap, ap₂, ◌∙◌, inl, inr, arith, ltb-true, ltb-false, eqb-true, lt-ltb, le-ltb, eq-eqb}
-use Rattle.rules.specs.Tree.{Tree, leaf, node, has, least, size, Distinct, Clade, SameClades}
-use Rattle.basics.proofs.Bools.{or_right}
-use Rattle.clades.specs.Leaves.{Inside}
+use Rattle.std.specs.Prelude.{cond, ◌<◌, ltb}
+use Rattle.rules.specs.Tree.{Tree, leaf, node, least}
 
 -- the part with the smaller least leaf first
 unfoldable pub join : Tree → Tree → Tree

@@ -1,14 +1,8 @@
 -- A tree with some of its leaves taken out: a pair that loses one side becomes the other side. Main definitions: beside, pruned, Restriction.
-use Rattle.std.specs.Prelude.{◌≡◌, ◌⊎◌, ◌↔◌, Bool, ◌&&◌, ◌||◌, cond, ℕ}
-use Rattle.std.proofs.Math.Path.{refl, sym, ap}
-use Rattle.std.proofs.Common.{ap₂, ◌∙◌, inl, eqb-true, eq-eqb}
-use Rattle.std.proofs.Math.Logic.{inr, ⊎_elim}
-use Rattle.std.proofs.Math.Bool.{true, false}
-use Rattle.std.proofs.lemmas.Bool.{false≢true}
+use Rattle.std.specs.Prelude.{◌≡◌, Bool, ◌&&◌, cond, ℕ}
+use Rattle.std.proofs.Math.Bool.{true}
 use Rattle.std.proofs.Math.Option.{Option, none, some}
-use Rattle.std.proofs.Math.Dec.{eqb}
-use Rattle.rules.specs.Tree.{Tree, leaf, node, has, Clade}
-use Rattle.basics.proofs.Bools.{or_false}
+use Rattle.rules.specs.Tree.{Tree, leaf, node, Clade}
 
 -- what is left of a pair
 unfoldable pub beside : Option Tree → Option Tree → Option Tree

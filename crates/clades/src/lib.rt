@@ -1,3 +1,2 @@
-#![tactic(auto)]
-
 // Trees, their leaves, clades and forms: no code here; specs/ has the definitions and their laws.
+#![tactic(auto)]

@@ -6,10 +6,10 @@
 -- Kept its promise.
 --
 -- Demand 1. "Every input gets a finished answer;"
---     DemandOne.every-input-answered: for every input and all lent buffers one answer, and one thing that the buffers then hold, meet the promise,
---     and no others do; promise-unique: two results that meet it are equal. An answer is done or refused: done_or_refused.
+--     DemandOne.every_input_answered: for every input and all lent buffers one answer, and one thing that the buffers then hold, meet the promise,
+--     and no others do; promise_unique: two results that meet it are equal. An answer is done or refused: done_or_refused.
 -- "a refusal carries its number and place from the table,"
---     DemandOne.refused-exactly: a call refuses with a number and a place exactly when the condition holds that 01 gives. There is a line for each
+--     DemandOne.refused_exactly: a call refuses with a number and a place exactly when the condition holds that 01 gives. There is a line for each
 --     number and each kind of input, in 01's order: LawVector.VectorRefused (1, 4), LawRelabel.RelabelRefused (then 2, 11),
 --     LawFromTable.TableRefused (1, 2, rows upward with 5, 6, 7 in each), LawFromNewick.TextRefused (2, 2, 8, 1, 9 and 13), LawUnpack.RecordRefused
 --     (2, 1, 2, 4, 10), LawWriteArchive.ArchiveRefused (1, 21, 2, 4), LawReadTree.TreeRefused (2, 1, 2, 12, 4, 10), LawCladeTable.CladesRefused
@@ -19,17 +19,17 @@
 --     DemandOne.refusal_writes_nothing.
 --
 -- Demand 2. "The tree of a vector is the one the paper's building rule gives;"
---     rules: Building has the rule word for word, Tree.treeOf the tree that its merges build; laws: what follows from it.
+--     rules: Building has the rule word for word, Tree.tree_of the tree that its merges build; laws: what follows from it.
 -- "vector, table, packed record and text of a tree are the ones the rules fix;"
---     DemandTwo.demand-two: table_written, text_written, record-written: where there is room the call is done with the number of elements, the
---     buffer holds the elements and behind them what it held. tree-turned-back: the vector of a valid vector's tree is that vector.
---     table-of-the-tree: the rows make the vector's tree, in the order of merges, "the child with the smaller least leaf first" (WrittenTable).
---     text-of-the-tree: the text is one of the grammar and reads as that tree, the smaller least leaf first, with no blank (WrittenText).
+--     DemandTwo.demand_two: table_written, text_written, record_written: where there is room the call is done with the number of elements, the
+--     buffer holds the elements and behind them what it held. tree_turned_back: the vector of a valid vector's tree is that vector.
+--     table_of_the_tree: the rows make the vector's tree, in the order of merges, "the child with the smaller least leaf first" (WrittenTable).
+--     text_of_the_tree: the text is one of the grammar and reads as that tree, the smaller least leaf first, with no blank (WrittenText).
 -- "turned back, each gives the vector it came from."
---     DemandTwo.demand-two: table_turned_back, text_turned_back, record_turned_back; as equations of the rules: table_back, text_back,
+--     DemandTwo.demand_two: table_turned_back, text_turned_back, record_turned_back; as equations of the rules: table_back, text_back,
 --     record_back. For all valid vectors of 1 to 1,024 entries.
 -- "The result is the permutation new and the vector of the relabelled tree, which has v(i) < i"; "leaf x becoming p(x)"
---     DemandTwo.demand-two: shuffled_written, relabelled-written: the answer and what each buffer holds. shuffled_tree, relabelled-tree: new is a
+--     DemandTwo.demand_two: shuffled_written, relabelled_written: the answer and what each buffer holds. shuffled_tree, relabelled_tree: new is a
 --     permutation, the vector is valid and has as many entries, the clades of its tree are the new names of the tree's clades, v(i) < i (Relabelled).
 --
 -- Demand 3. Accepted inputs of any notation "lead to the same vector exactly when they have the same clades";
@@ -47,35 +47,35 @@
 --     One library, and only one, keeps the promises: one_library_keeps, no_two_libraries.
 --
 -- CR 1, the archive. "a writer into a lent buffer, from n and the vectors' entries in one list, tree after tree (an empty list: no trees)"
---     DemandTwo.demand-two: archive_written, for every run of vectors, none too; exactly these are taken: archive_laws Writer.written_exactly.
+--     DemandTwo.demand_two: archive_written, for every run of vectors, none too; exactly these are taken: archive_laws Writer.written_exactly.
 -- "a reader of tree r"
---     DemandTwo.demand-two: archive_turned_back; as an equation of the rules: archive_back. An archive whose trees are all accepted is the one that
+--     DemandTwo.demand_two: archive_turned_back; as an equation of the rules: archive_back. An archive whose trees are all accepted is the one that
 --     is written of them: archive_laws Only.only_archive, same_archive.
 -- "a view, the part of the lent archive that is record r, empty where the reader gives 1, 2 or 12"
 --     View.view_is_the_record, view_empty_exactly, beside the reader's promise; one or the other: record_or_empty. What the part of a written archive
 --     holds: DemandTwo.demand_two, archive_part.
 -- "The answer about tree r depends on the header, the archive's length, r, the output's length and record r's bytes only."
---     Depends.answer-depends: the same answer and the same elements written; output-depends: into one output the whole of it. The view:
+--     Depends.answer_depends: the same answer and the same elements written; output_depends: into one output the whole of it. The view:
 --     part_depends, view_depends.
 -- "Demands 2 and 3 read archive records as packed records with that n."
---     DemandTwo.demand-two: archive_as_packed. DemandThree: an archive and a number r are the fifth kind of input (archived); archived-as-packed:
+--     DemandTwo.demand_two: archive_as_packed. DemandThree: an archive and a number r are the fifth kind of input (archived); archived_as_packed:
 --     it leads where the packed record leads and has its clades. Whether accepted or not: archive_laws AsPacked.read_as_packed.
 -- "Refusals: the reader gives 2 under 4 bytes (place 4), 1, 2 .., 12 .., then 4 and 10 .., then 3; the writer gives 1, 21 .., 2 .., 4 .., 3."
 --     LawReadTree.TreeRefused and LawWriteArchive.ArchiveRefused, in DemandOne.refused_exactly and room_exactly as those of every call. The place of the
 --     writer's 2 is the first multiple of n above the length: LawWriteArchive.next_multiple_first; that of its 4: FirstEntry.first_entry_found.
 --
 -- CR 2, a stray label and a double one. "9 is now only "not below n"; 13 is "used before"; label by label in text order, 9 before 13 at the same label."
---     LawFromNewick.TextRefused, text_9 and text_13, in DemandOne.refused-exactly: FirstUnfit is the first label at fault, by either of the two, Stray
+--     LawFromNewick.TextRefused, text_9 and text_13, in DemandOne.refused_exactly: FirstUnfit is the first label at fault, by either of the two, Stray
 --     and Double are the two. The first label at fault never is both: not_both.
 --
 -- CR 3, blanks in a text. "Accept spaces, tabs, carriage returns and line feeds anywhere except inside a label"
---     Blanks.blanks-anywhere: bytes that have the signs of an accepted text, and no blank inside a label, lead to the same vector.
+--     Blanks.blanks_anywhere: bytes that have the signs of an accepted text, and no blank inside a label, lead to the same vector.
 -- "Places of 8, 9 and 13 are in the bytes as sent."
---     LawFromNewick.TextRefused, text_8, text_9 and text-13: rules Newick.BreaksAt SentText and labels_of are of the bytes as sent.
+--     LawFromNewick.TextRefused, text_8, text_9 and text_13: rules Newick.BreaksAt SentText and labels_of are of the bytes as sent.
 -- "The writer still writes none."
---     DemandTwo.demand-two: text_of_the_tree, no_blank of WrittenText.
+--     DemandTwo.demand_two: text_of_the_tree, no_blank of WrittenText.
 -- "Demand 3 reads such a text as its signs without blanks."
---     Blanks.text-as-signs: an accepted text leads where its signs lead, and has their clades; same-signs-same-vector: two accepted texts that differ
+--     Blanks.text_as_signs: an accepted text leads where its signs lead, and has their clades; same_signs_same_vector: two accepted texts that differ
 --     in blanks only lead to the same vector.
 -- "2 is now given first for a text above 65,536 bytes (place 65536), then for more than 6,056 bytes that aren't blanks (place 6056)."
 --     LawFromNewick.TextRefused, text_2 and text_2_signs.
@@ -83,7 +83,7 @@
 -- CR 4, the clade table. What the table is stands in the crate clade_demands, which is above this one.
 -- "build a table in a lent list of entries: one entry for each different clade of two leaves or more, its leaf set as a 64-bit number (leaf x is bit x),
 -- its size, and in how many trees it occurs. Entries rise by leaf set."
---     clade_demands Answered.done-table: where the call is done the first entries of the lent list are the clade table, as many as the answer says:
+--     clade_demands Answered.done_table: where the call is done the first entries of the lent list are the clade table, as many as the answer says:
 --     CladeTable.CladeTableOf with each_clade, rises, sizes, counts. No other list is one: table_made_exactly. "archive": the trees are those that the
 --     reader of tree r reads, TreesRead.each_tree_read; of an archive that is written, those of its vectors: TreesRead.table_written.
 -- "The counts, each defined from the trees and not from the table, add up to trees times (n-1)."

@@ -1,10 +1,9 @@
 -- The length of a tree's text hangs on its number of leaves alone. Main results: text_length_lem, text_length_1024, text_length_mono,
 -- text_length_most.
-use Rattle.std.specs.Prelude.{◌≡◌, refl, Bool, true, false, cond, List, [], ◌∷◌, ◌++◌, ℕ, ◌+◌, ◌-◌, ◌*◌, ◌≤◌, ltb, length}
+use Rattle.std.specs.Prelude.{◌≡◌, refl, Bool, true, false, cond, List, [], ◌∷◌, ◌++◌, ℕ, ◌+◌, ◌*◌, ◌≤◌, ltb, length}
 use Rattle.std.proofs.Common.{arith, length-append}
 use Rattle.rules.specs.Newick.{pair_text, node_text, text_of}
 use Rattle.rules.specs.Tree.{Tree, leaf, node, least, LeavesBelow}
-use Rattle.basics.specs.Sums.{sum_below}
 use Rattle.basics.proofs.Sums.{sum_mono}
 use Rattle.clades.specs.Size.{sum_leaves}
 use Rattle.clades.proofs.Size.{all_leaves_sum, size_below}

@@ -1,10 +1,10 @@
 -- What a reader's answer means: what it reads is in the grammar, what it passes before it breaks off can be completed, and in both cases the answer
 -- hangs on no byte behind the next one. Main results: sound_seq, sound_node, sound_text.
-use Rattle.std.specs.Prelude.{◌≡◌, Bool, true, false, cond, ◌⊎◌, ℕ, zero, suc, ◌+◌, ◌-◌, ◌*◌, ◌≤◌, eqb, length}
+use Rattle.std.specs.Prelude.{◌≡◌, Bool, true, false, cond, ℕ, zero, suc, ◌+◌, ◌-◌, ◌*◌, eqb}
 use Rattle.std.proofs.Math.Path.{refl, ap, sym}
 use Rattle.std.proofs.Common.{subst, ◌∙◌, inl, inr, arith, eqb-true}
 use mathlib.Core.List.{List, [], ◌∷◌, ◌++◌, append_assoc}
-use Rattle.rules.specs.Newick.{is_digit, all_digits, value_from, levels, Label, nought, number, Node, label, pair, pair_text, Text, text}
+use Rattle.rules.specs.Newick.{is_digit, all_digits, value_from, levels, nought, number, Node, label, pair, pair_text, Text, text}
 use Rattle.rules.specs.Tree.{Tree, leaf, node}
 use Rattle.grammar.specs.Reading.{Reading, read, broken, Reader, and_then, seq, sign, nothing, more_digits, label_read, pair_read, bracket_or_label, node_read, text_read}
 use Rattle.grammar.specs.Sound.{Like, Grammar, Reads, Outcome, Sound, Seq, Sign, Nothing, Digits, Leaf, Bracketed, Tail}

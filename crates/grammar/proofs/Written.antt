@@ -1,8 +1,8 @@
 -- The text of a tree is a text, which reads as the tree with each pair turned so that its smaller least leaf stands first. Main results:
 -- written_plain, plain_node, written_text, leaves_text.
-use Rattle.std.specs.Prelude.{◌≡◌, refl, Bool, true, false, cond, List, ℕ, zero, suc, ◌+◌, ◌≤◌, ◌<◌, max, ltb}
+use Rattle.std.specs.Prelude.{◌≡◌, refl, Bool, true, false, cond, ℕ, zero, suc, ◌+◌, ◌≤◌, ◌<◌, max, ltb}
 use Rattle.std.proofs.Common.{ap₂, sym, ◌∙◌, arith, ltb-true, eq-eqb}
-use Rattle.rules.specs.Newick.{digits, pair_text, node_text, text_of, levels, Node, label, pair, Text, text}
+use Rattle.rules.specs.Newick.{pair_text, node_text, text_of, levels, Node, label, pair, Text, text}
 use Rattle.rules.specs.Tree.{Tree, leaf, node, has, least, LeavesBelow}
 use Rattle.clades.proofs.Leaves.{has_left, has_right}
 use Rattle.clades.proofs.Size.{size_below}

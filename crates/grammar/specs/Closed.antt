@@ -1,25 +1,14 @@
 -- The pairs of a tree, in the order in which their brackets close, are the rows of an accepted table of the tree. Main definitions: child_number,
 -- closed_rows, number_of.
-use Rattle.std.specs.Prelude.{◌≡◌, cond, ◌||◌, ◌⊎◌, eqb, length}
-use Rattle.std.proofs.Math.Path.{refl, ap, ap₂, sym}
-use Rattle.std.proofs.Common.{subst, ◌∙◌, true≢false, inl, inr, ⊎_elim}
+use Rattle.std.specs.Prelude.{◌≡◌, cond, ◌||◌, ◌⊎◌, eqb}
 use Rattle.std.proofs.Math.Bool.{Bool, true, false}
-use Rattle.std.proofs.Math.Option.{none}
-use mathlib.Core.List.{List, [], ◌∷◌, ◌++◌, map, append_assoc, append-nil}
-use Prim.Native.Nat.{ℕ, suc, ◌+◌, ◌-◌, ◌≤◌, ◌<◌}
-use native.Mathlib.Omega.{arith}
+use mathlib.Core.List.{List, [], ◌∷◌, ◌++◌, map}
+use Prim.Native.Nat.{ℕ, ◌+◌, ◌-◌, ◌≤◌, ◌<◌}
 use Rattle.std.proofs.Math.Dec.{ltb}
-use Rattle.std.proofs.Math.ListN.{length-map}
-use borrow.Author.Tests.{ne_eqb, eq-eqb, lt-ltb, le-ltb, ltb-true}
-use Rattle.rules.specs.Tree.{Tree, leaf, node, has, Distinct, LeavesBelow, Clusters}
-use Rattle.rules.specs.Table.{Row, nodes_of, table_tree, row_fault, table_fault, children_below, named_twice}
-use Rattle.basics.proofs.Bools.{or_no, or_false}
-use Rattle.basics.proofs.Cases.{by_test}
-use Rattle.clades.proofs.Leaves.{has_left, has_right}
-use Rattle.clades.proofs.Size.{size_below}
+use Rattle.rules.specs.Tree.{Tree, leaf, node, has, Clusters}
+use Rattle.rules.specs.Table.{Row}
 use Rattle.written_tables.specs.Tied.{tied}
-use Rattle.written_tables.proofs.Tied.{tied_length}
-use Rattle.grammar.specs.Pairs.{pair_count, child_code, pairs_from}
+use Rattle.grammar.specs.Pairs.{pair_count}
 
 -- a child's number among n leaves: a label is a leaf, pair number k is node n + k
 unfoldable pub child_number : ℕ → ℕ → ℕ

@@ -1,8 +1,6 @@
 -- A number below 10,000 in decimal is a label that reads as the number. Main definitions: digit_count, two_digits.
-use Rattle.std.specs.Prelude.{◌≡◌, refl, Bool, true, false, cond, List, [], ◌∷◌, ◌++◌, ℕ, zero, suc, ◌+◌, ◌-◌, ◌*◌, ◌/◌, ◌%◌, ◌≤◌, ◌<◌, eqb, ltb, length}
-use Rattle.std.proofs.Common.{ap, sym, subst₂, ◌∙◌, append_assoc, arith, length-append, ltb-true, ltb-false, lt-ltb, le-ltb, le-leb, ne_eqb}
-use Rattle.rules.specs.Newick.{digits, is_digit, all_digits, value_from, Label, nought, number}
-use Rattle.basics.proofs.Bools.{and_both}
+use Rattle.std.specs.Prelude.{◌≡◌, true, false, cond, List, [], ◌∷◌, ℕ, zero, suc, ◌+◌, ◌*◌, ◌/◌, ◌%◌, ◌<◌, eqb, ltb, length}
+use Rattle.rules.specs.Newick.{all_digits, value_from}
 
 -- the largest number of k digits, and one more
 abbrev pub tens : ℕ → ℕ

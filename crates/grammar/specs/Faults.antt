@@ -1,17 +1,9 @@
 -- No label of bytes that are labelled as a tree is at fault exactly when the leaves of its tree are 0 to n-1, each once. Main definitions: used_by.
-use Rattle.std.specs.Prelude.{◌≡◌, refl, Bool, true, false, cond, ◌||◌, not, List, [], ◌∷◌, ◌++◌, map, ℕ, ◌<◌, eqb, ltb, length}
-use Rattle.std.proofs.Common.{ap, sym, ◌∙◌, true≢false, ⊎_elim, append-nil, append_assoc, eq-eqb, eqb-true, lt-ltb, ltb-true}
+use Rattle.std.specs.Prelude.{◌≡◌, Bool, true, false, cond, ◌||◌, not, List, [], ◌∷◌, ℕ, ◌<◌, ltb}
 use Rattle.std.proofs.Math.Option.{Option, none, some}
 use Rattle.rules.specs.Building.{member}
-use Rattle.rules.specs.Names.{Placed, PlacedFault, first_fault}
-use Rattle.rules.specs.Newick.{labels_of, label_fault}
-use Rattle.rules.specs.Tree.{Tree, leaf, node, has, Distinct, LeavesBelow}
-use Rattle.basics.proofs.Bools.{or_no}
-use Rattle.basics.specs.Names.{fault_of}
-use Rattle.basics.proofs.Names.{first_step}
-use Rattle.clades.proofs.Leaves.{has_left, has_right, has_cases}
-use Rattle.clades.proofs.Size.{every_leaf, size_below}
-use Rattle.grammar.specs.Labels.{value, leaves_of, LabelledAs}
+use Rattle.rules.specs.Names.{PlacedFault}
+use Rattle.rules.specs.Tree.{Tree, leaf, node, has, Distinct}
 
 -- the first fault among labels without their places: is there none?
 unfoldable pub fits : ℕ → List ℕ → List ℕ → Bool

@@ -1,14 +1,9 @@
 -- The labels of a node's bytes are the leaves of its tree from left to right, each at the place of its first byte. Main definitions: leaves_of,
 -- LabelledAs.
-use Rattle.std.specs.Prelude.{◌≡◌, refl, true, false, cond, List, [], ◌∷◌, ◌++◌, map, ℕ, suc, ◌+◌, ◌-◌, ◌*◌, length}
-use Rattle.std.proofs.Common.{ap, ap₂, sym, ◌∙◌, append-nil, arith, length-append}
-use Rattle.std.proofs.Math.Option.{Option, none, some}
-use Rattle.std.proofs.lemmas.List.{length-map}
+use Rattle.std.specs.Prelude.{◌≡◌, List, [], ◌∷◌, ◌++◌, map, ℕ}
 use Rattle.rules.specs.Names.{Placed}
-use Rattle.rules.specs.Newick.{is_digit, all_digits, value_from, Label, nought, number, Node, label, pair, pair_text, Text, text, with_digit, ending, labels_from, labels_of}
-use Rattle.rules.specs.Tree.{Tree, leaf, node, size}
-use Rattle.basics.proofs.Bools.{and_both}
-use Rattle.basics.proofs.Mapped.{map_append}
+use Rattle.rules.specs.Newick.{labels_of}
+use Rattle.rules.specs.Tree.{Tree, leaf, node}
 
 -- the leaves from left to right
 unfoldable pub leaves_of : Tree → List ℕ

@@ -1,7 +1,6 @@
 -- The pairs of a tree in the order in which their brackets close, each as its two children. Main definitions: pair_count, child_code, pairs_from.
-use Rattle.std.specs.Prelude.{◌≡◌, refl, List, [], ◌∷◌, ◌++◌, ℕ, ◌+◌, length}
-use Rattle.std.proofs.Common.{arith, length-append}
-use Rattle.rules.specs.Tree.{Tree, leaf, node, size}
+use Rattle.std.specs.Prelude.{List, [], ◌∷◌, ◌++◌, ℕ, ◌+◌}
+use Rattle.rules.specs.Tree.{Tree, leaf, node}
 
 unfoldable pub pair_count : Tree → ℕ
 pair_count (leaf x) = 0

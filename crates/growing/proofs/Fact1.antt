@@ -1,6 +1,6 @@
 -- Fact 1 of 01: "The order of merges depends on the tree alone: of the pairs whose two clusters are complete, the one whose larger name is greatest
 -- comes first." Main results: fact_1 (of a tree's order), pairs_order, pairs_below. Of the clusters that merges build: Complete.
-use Rattle.std.specs.Prelude.{◌≡◌, List, [], ◌∷◌, ℕ, zero, suc, ◌≤◌, ◌<◌, length, take, get_or}
+use Rattle.std.specs.Prelude.{◌≡◌, List, ◌∷◌, ℕ, zero, suc, ◌≤◌, ◌<◌, length, take, get_or}
 use Rattle.std.proofs.Common.{arith}
 use Rattle.rules.specs.Vector.{entry}
 use Rattle.rules.specs.Building.{Merge}

@@ -24,7 +24,7 @@ use Rattle.growing.specs.Grown.{graft}
 use Rattle.growing.proofs.Grown.{grown_graft, has_grown, size_grown}
 use Rattle.growing.specs.Ready.{Ready, Greatest}
 use Rattle.growing.proofs.Ready.{best_greatest, best_is, best_some, ready_has, ready_rising}
-use Rattle.growing.specs.Collapse.{Collapsed, Clear}
+use Rattle.growing.specs.Collapse.{Clear}
 use Rattle.growing.proofs.Collapse.{collapsed, collapsed_has, collapsed_least, collapsed_size, ready_before}
 use Rattle.growing.proofs.Graft.{collapse_graft, ready_graft, ready_own}
 use Rattle.growing.specs.OrderOf.{Step}

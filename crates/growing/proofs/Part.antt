@@ -1,5 +1,5 @@
 -- The parts of a tree: the trees of its nodes. Main results: part_inside, part_size, part_distinct, part_turned, part_filled, part_own, part_ready.
-use Rattle.std.specs.Prelude.{◌≡◌, refl, ◌⊎◌, true, ℕ, ◌≤◌, min, max}
+use Rattle.std.specs.Prelude.{◌≡◌, refl, true, ℕ, ◌≤◌, min, max}
 use Rattle.std.proofs.Common.{ap, inl, inr, ⊎_elim, arith}
 use Rattle.rules.specs.Building.{Merge}
 use Rattle.rules.specs.Tree.{Tree, leaf, node, Clusters, has, size, Distinct}

@@ -1,20 +1,11 @@
 -- The tree after a merge: its ready pair is one complete cluster. Grafting the pair gives the tree back, up to turning. Main definition: Collapsed.
-use Rattle.std.specs.Prelude.{◌≡◌, ◌≢◌, ◌⊎◌, Bool, true, false, ◌||◌, cond, ℕ, suc, ◌<◌, eqb}
-use Rattle.std.proofs.Math.Path.{refl, sym, ap₂}
-use Rattle.std.proofs.Common.{ap, ◌∙◌, inr, true≢false, arith}
-use Rattle.std.proofs.Math.Logic.{inl, ⊎_elim}
-use Rattle.std.proofs.lemmas.Bool.{false≢true}
-use Rattle.std.proofs.Math.Option.{Option, none, some}
-use borrow.Author.Tests.{eqb-true, lt-ltb, le-ltb, eq-eqb, ne_eqb}
+use Rattle.std.specs.Prelude.{◌≡◌, ◌≢◌, ◌⊎◌, true, false}
+use Rattle.std.proofs.Math.Option.{some}
 use Rattle.rules.specs.Building.{Merge}
-use Rattle.rules.specs.Tree.{Tree, leaf, node, has, least, size, Distinct}
-use Rattle.rules.specs.Order.{ready, is_merge, collapse}
-use Rattle.basics.proofs.Bools.{or_left, or_no, or_comm, and_left, and_right}
-use Rattle.clades.proofs.Leaves.{has_left, distinct_swap, lacks}
-use Rattle.clades.specs.Form.{join, form}
-use Rattle.clades.proofs.Form.{form_has, form_least, form_size, form_distinct, form_swap}
+use Rattle.rules.specs.Tree.{Tree, leaf, node, has, Distinct}
+use Rattle.rules.specs.Order.{ready, collapse}
+use Rattle.clades.specs.Form.{form}
 use Rattle.growing.specs.Grown.{graft}
-use Rattle.growing.specs.Ready.{Ready, Sides}
 
 -- a node is the pair itself, or is left with its two parts merged within
 abbrev pub Cases : Merge → Tree → Tree → Type 0

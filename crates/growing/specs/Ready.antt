@@ -1,13 +1,9 @@
 -- The pairs of a tree whose two clusters are complete, and the best of them. Main definitions: Ready, Greatest.
-use Rattle.std.specs.Prelude.{◌≡◌, refl, ◌≢◌, ◌⊎◌, Bool, true, false, ◌||◌, cond, ℕ, ◌≤◌, ◌<◌, min, max, eqb, ltb}
-use Rattle.std.proofs.Common.{sym, ap, ◌∙◌, inl, inr, ⊎_elim, arith, ltb-true, ltb-false, eqb-true, eq-eqb}
-use Rattle.std.proofs.Math.Option.{Option, none, some, none-ne-some, some-injective}
-use Rattle.std.proofs.lemmas.Bool.{eqb-false}
+use Rattle.std.specs.Prelude.{◌≡◌, ◌⊎◌, ◌<◌}
+use Rattle.std.proofs.Math.Option.{some}
 use Rattle.rules.specs.Building.{Merge}
-use Rattle.rules.specs.Tree.{Tree, leaf, node, has, Distinct}
-use Rattle.rules.specs.Order.{ready, greater, best}
-use Rattle.basics.proofs.Bools.{or_left, or_right}
-use Rattle.clades.proofs.Leaves.{has_left, has_right}
+use Rattle.rules.specs.Tree.{Tree, leaf, node}
+use Rattle.rules.specs.Order.{ready}
 
 -- m is the merge of some node of the tree whose two parts are complete
 unfoldable pub Ready : Merge → Tree → Type 0

@@ -93,7 +93,7 @@ module _ (s : List ℕ) where
       (λ h. agrees_count two (λ m. many_leaves n m h) (wanted_many_leaves s n two refl h))
       (λ h. let some_leaf : 1 ≤ n = omega (arith, d) in by_lt (length s) long (agrees_part two some_leaf h) (agrees_whole two some_leaf h))))
 
-  -- Their line is what `firstRecord` says of the input.
+  -- Their line is what `first_record` says of the input.
   pub bytes_line : line_for (record_bytes s) ≡ then (first_record s) line_for
   unfolding line_for then
   bytes_line = go agrees

@@ -1,6 +1,6 @@
 -- One to one: valid vectors and rooted binary trees with leaves 0 to n-1, up to turning pairs round. Main results: same_clades_same_vector,
 -- every_tree, only_vector.
-use Rattle.std.specs.Prelude.{List, ◌↔◌, ◌≡◌, ℕ, length}
+use Rattle.std.specs.Prelude.{List, ◌↔◌, ◌≡◌, ℕ}
 use Rattle.std.proofs.Common.{sym, ap, ◌∙◌, subst}
 use Rattle.rules.specs.Vector.{Valid}
 use Rattle.rules.specs.Tree.{Tree, leaf, tree_of, grown, LeavesBelow, SameClades}
@@ -48,11 +48,11 @@ listed_vector n t L =
       clades = subst (λ (u : Tree). SameClades u t) (sym (ap (λ P. grown P leaf 0) w.1 ∙ grown_order n t L)) (same_sym t _ (form_clades t));
     }
 
--- Every rooted binary tree with leaves 0 to n-1, each once, has the clades of the tree of the vector that `vectorOf` gives.
+-- Every rooted binary tree with leaves 0 to n-1, each once, has the clades of the tree of the vector that `vector_of` gives.
 pub every_tree : (n : ℕ) (t : Tree) → LeavesBelow n t → VectorOf n t (vector_of t)
 every_tree n t L = subst (VectorOf n t) (vector_listed n t L) (listed_vector n t L)
 
--- and of no other vector's tree: so whatever `vectorOf` is made of, it is the one vector whose tree has the clades of t
+-- and of no other vector's tree: so whatever `vector_of` is made of, it is the one vector whose tree has the clades of t
 pub only_vector : (n : ℕ) (t : Tree) → LeavesBelow n t → (v : List ℕ) → Valid v → SameClades (tree_of v) t → v ≡ vector_of t
 only_vector n t L v ok s =
     let e = every_tree n t L in

@@ -1,12 +1,12 @@
 -- The laws of the rules, and which sentence of 01 each answers.
 --
 -- "At each step the largest i that still names a cluster and sees one labelled v(i) merges with that one."
---     building Next.next_can_merge, next_largest, next_none. A leaf sees at most one cluster so labelled: building Labels.labels-apart, over the
+--     building Next.next_can_merge, next_largest, next_none. A leaf sees at most one cluster so labelled: building Labels.labels_apart, over the
 --     states that a run reaches (Going.after_reached, reached_after). Some leaf can merge while two clusters are left: Going.two_left_go_on.
 -- "the smallest label j has not used"
 --     building Labels.smallest_is_unused, smaller_are_used; in a run it is the next number: used_below.
 -- "After n-1 steps one cluster is left."
---     building Going.goes-on, one-left (it is named 0, and no other number names one), stops.
+--     building Going.goes_on, one_left (it is named 0, and no other number names one), stops.
 -- "The order of merges depends on the tree alone: of the pairs whose two clusters are complete, the one whose larger name is greatest
 -- comes first."
 --     TreeOf.fact_one, equal_trees_equal_order; step by step: FactOne.fact_one_at_each_step; "the one": fact_one_of_one_pair; "larger

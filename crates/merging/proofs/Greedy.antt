@@ -1,6 +1,6 @@
 -- The greedy order of a list of merges: each is, of those that wait for nothing before them, the one with the greatest larger name. Main results:
 -- under_pairs, greedy.
-use Rattle.std.specs.Prelude.{◌≡◌, refl, Bool, true, false, not, ◌&&◌, ◌||◌, List, [], ◌∷◌, ℕ, zero, suc, ◌-◌, ◌≤◌, ◌<◌, eqb, length}
+use Rattle.std.specs.Prelude.{◌≡◌, refl, false, not, List, [], ◌∷◌, ℕ, zero, suc, ◌-◌, ◌≤◌, ◌<◌, length}
 use Rattle.std.proofs.Common.{sym, ◌∙◌, true≢false, arith, eq-eqb}
 use Rattle.rules.specs.Building.{Merge}
 use Rattle.basics.proofs.Bools.{and_left, and_right}

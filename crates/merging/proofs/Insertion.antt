@@ -1,6 +1,6 @@
 -- The merges of a vector by insertion: each entry puts its leaf's merge into the merges of the entries before it. Main results: valid_bounded,
 -- by_insert, pairs_length, pairs_count, pairs_cong.
-use Rattle.std.specs.Prelude.{◌≡◌, refl, Bool, true, false, cond, List, [], ◌∷◌, ◌++◌, ℕ, zero, suc, ◌-◌, ◌*◌, ◌≤◌, ◌<◌, ltb, length, take, drop, get_or}
+use Rattle.std.specs.Prelude.{◌≡◌, refl, Bool, true, false, cond, List, ◌∷◌, ℕ, zero, suc, ◌-◌, ◌≤◌, ◌<◌, ltb, length, take, drop, get_or}
 use Rattle.std.proofs.Common.{ap₂, arith, length-append, length-take, length-drop, ltb-true, ltb-false}
 use Rattle.rules.specs.Vector.{entry, bound, Valid}
 use Rattle.rules.specs.Building.{Merge}

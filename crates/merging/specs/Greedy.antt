@@ -1,10 +1,7 @@
 -- The greedy order of a list of merges: each is, of those that wait for nothing before them, the one with the greatest larger name. Main definitions:
 -- touch, free, Ahead, Greedy, Under.
-use Rattle.std.specs.Prelude.{◌≡◌, refl, Bool, true, false, not, ◌&&◌, ◌||◌, List, [], ◌∷◌, ℕ, zero, suc, ◌-◌, ◌≤◌, ◌<◌, eqb, length}
-use Rattle.std.proofs.Common.{sym, ◌∙◌, true≢false, arith, eq-eqb}
+use Rattle.std.specs.Prelude.{◌≡◌, Bool, true, not, ◌&&◌, ◌||◌, List, [], ◌∷◌, ℕ, ◌<◌, eqb}
 use Rattle.rules.specs.Building.{Merge}
-use Rattle.basics.proofs.Bools.{and_left, and_right}
-use Rattle.merging.specs.Insertion.{put, insert, pairs_of, Bounded}
 
 -- q and p have a cluster's name in common
 unfoldable pub touch : Merge → Merge → Bool

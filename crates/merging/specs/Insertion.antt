@@ -1,8 +1,7 @@
 -- The merges of a vector by insertion: each entry puts its leaf's merge into the merges of the entries before it. Main definitions: put, insert,
 -- pairs_of, pairs, Bounded.
-use Rattle.std.specs.Prelude.{◌≡◌, refl, Bool, true, false, cond, List, [], ◌∷◌, ◌++◌, ℕ, zero, suc, ◌-◌, ◌*◌, ◌≤◌, ◌<◌, ltb, length, take, drop, get_or}
-use Rattle.std.proofs.Common.{ap₂, arith, length-append, length-take, length-drop, ltb-true, ltb-false}
-use Rattle.rules.specs.Vector.{entry, bound, Valid}
+use Rattle.std.specs.Prelude.{cond, List, [], ◌∷◌, ◌++◌, ℕ, zero, suc, ◌-◌, ◌*◌, ◌≤◌, ◌<◌, ltb, length, take, drop, get_or}
+use Rattle.rules.specs.Vector.{entry}
 use Rattle.rules.specs.Building.{Merge}
 
 -- the entries of a vector below n, each within its bound (2 * (0 - 1) is 0)

@@ -1,10 +1,7 @@
 -- Each larger name occurs once among the merges of a vector; the last leaf's entry, and the merges without it, are read off the merges. Main
 -- definitions: times, place, entry_in, without.
-use Rattle.std.specs.Prelude.{◌≡◌, refl, ◌≢◌, Bool, true, false, cond, List, [], ◌∷◌, ◌++◌, ℕ, zero, suc, ◌+◌, ◌-◌, ◌≤◌, ◌<◌, eqb, length, take, drop, get_or}
-use Rattle.std.proofs.Common.{ap, arith, take-append-drop, eqb-true, eq-eqb, ne_eqb}
-use Rattle.std.proofs.lemmas.Bool.{eqb-false}
+use Rattle.std.specs.Prelude.{cond, List, [], ◌∷◌, ℕ, suc, ◌+◌, eqb}
 use Rattle.rules.specs.Building.{Merge}
-use Rattle.merging.specs.Insertion.{put, insert, pairs_of, Bounded}
 
 unfoldable pub hit : ℕ → ℕ → ℕ
 hit i j = cond (eqb i j) 1 0

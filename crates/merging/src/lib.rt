@@ -1,3 +1,2 @@
-#![tactic(auto)]
-
 // Lists of merges: no code here; specs/ has the definitions and their laws.
+#![tactic(auto)]

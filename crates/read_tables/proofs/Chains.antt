@@ -6,8 +6,7 @@ use Rattle.std.proofs.Common.{sym, ◌∙◌, inr, append-nil, eqb-true, eq-eqb,
 use Rattle.std.proofs.Math.Logic.{inl, ⊎_elim}
 use native.Mathlib.Omega.{arith}
 use Rattle.std.proofs.lemmas.Bool.{eqb-false}
-use Rattle.rules.specs.Building.{Merge}
-use Rattle.rules.specs.Tree.{Tree, leaf, node, has, least, Distinct}
+use Rattle.rules.specs.Tree.{Tree, leaf, node, least, Distinct}
 use Rattle.clades.proofs.Leaves.{has_left, has_right}
 use Rattle.read_tables.specs.Larger.{Pair}
 use Rattle.read_tables.proofs.Larger.{lesser, top_has, top_left, top_right, pair_apart}

@@ -1,15 +1,8 @@
 -- The order of a tree's merges by chains: pairs merge by the falling least larger name under them, and those of one such name from the bottom up.
 -- Main definitions: lowest, chain, falling, merges_of, Smaller, In, Apart.
-use Rattle.std.specs.Prelude.{◌≡◌, ◌≢◌, ◌⊎◌, Bool, true, false, cond, List, [], ◌∷◌, ◌++◌, ℕ, zero, suc, ◌≤◌, ◌<◌, min, max, eqb}
-use Rattle.std.proofs.Math.Path.{refl}
-use Rattle.std.proofs.Common.{sym, ◌∙◌, inr, append-nil, eqb-true, eq-eqb, ne_eqb}
-use Rattle.std.proofs.Math.Logic.{inl, ⊎_elim}
-use native.Mathlib.Omega.{arith}
-use Rattle.std.proofs.lemmas.Bool.{eqb-false}
+use Rattle.std.specs.Prelude.{◌≡◌, ◌⊎◌, true, cond, List, [], ◌∷◌, ◌++◌, ℕ, zero, suc, ◌<◌, min, max, eqb}
 use Rattle.rules.specs.Building.{Merge}
-use Rattle.rules.specs.Tree.{Tree, leaf, node, has, least, Distinct}
-use Rattle.clades.proofs.Leaves.{has_left, has_right}
-use Rattle.read_tables.specs.Larger.{Pair}
+use Rattle.rules.specs.Tree.{Tree, leaf, node, has, least}
 
 -- the least larger name of a tree's pairs, and m where it has no pair
 unfoldable pub lowest : ℕ → Tree → ℕ

@@ -1,15 +1,11 @@
 -- The order of a tree's merges is that of its chains: at each node the orders of the two parts merge by the greater larger name, which is run by run,
 -- and the node's own pair comes last. Main definitions: Merged, Goes.
-use Rattle.std.specs.Prelude.{◌≡◌, refl, ◌≢◌, ◌⊎◌, Bool, true, false, cond, ℕ, zero, suc, ◌+◌, ◌≤◌, ◌<◌, min, max, eqb}
-use Rattle.std.proofs.Common.{sym, ap, ◌∙◌, inl, inr, ⊎_elim, arith, eqb-true, ne_eqb, lt-ltb, le-ltb}
-use mathlib.Core.List.{List, [], ◌∷◌, ◌++◌, append-nil, append_assoc}
-use Rattle.std.proofs.Math.Option.{none, some}
-use Rattle.std.proofs.lemmas.Bool.{eqb-false}
-use Rattle.rules.specs.Building.{Merge}
-use Rattle.rules.specs.Tree.{Tree, leaf, node, least, size, Distinct}
-use Rattle.rules.specs.Order.{ready, greater, best, collapse, order}
+use Rattle.std.specs.Prelude.{◌≡◌, ℕ, ◌+◌, ◌<◌}
+use mathlib.Core.List.{List, [], ◌∷◌}
+use Rattle.std.proofs.Math.Option.{some}
+use Rattle.rules.specs.Tree.{Tree, size}
+use Rattle.rules.specs.Order.{best, collapse}
 use Rattle.read_tables.specs.Larger.{inner, Pair}
-use Rattle.read_tables.specs.Chains.{lowest, chain, falling, merges_of, Smaller, In, Apart, Bounded, Starts}
 
 -- a list's head, if there is one, is below x
 unfoldable pub HeadBelow : ℕ → List ℕ → Type 0

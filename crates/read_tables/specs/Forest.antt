@@ -1,21 +1,12 @@
 -- What accepted rows leave: the nodes not yet named as a child have disjoint leaf sets that together are 0..n-1; after n-1 rows one is left. Main
 -- definitions: named_in, RowOk, Forest.
-use Rattle.std.specs.Prelude.{◌≡◌, refl, ◌≢◌, ◌⊎◌, Bool, true, false, ◌&&◌, ◌||◌, cond, List, [], ◌∷◌, ◌++◌, ltb, length}
-use Rattle.std.proofs.Common.{sym, ap, ◌∙◌, inl, inr}
-use Rattle.std.proofs.Math.Logic.{⊎_elim}
+use Rattle.std.specs.Prelude.{◌≡◌, ◌≢◌, Bool, true, false, ◌||◌, List, [], ◌∷◌}
 use Rattle.std.proofs.Math.Bool.{not}
-use Rattle.std.proofs.lemmas.Bool.{false≢true}
-use Rattle.std.proofs.Math.Option.{none, some, none-ne-some}
-use Prim.Native.Nat.{ℕ, suc, ◌+◌, ◌-◌, ◌≤◌, ◌<◌}
-use native.Mathlib.Omega.{arith}
+use Prim.Native.Nat.{ℕ, ◌+◌, ◌-◌, ◌≤◌, ◌<◌}
 use Rattle.std.proofs.Math.Dec.{eqb}
-use borrow.Author.Tests.{eqb-true, eqb-false, eq-eqb, ne_eqb, ltb-true, lt-ltb}
-use Rattle.rules.specs.Tree.{leaf, node, has, Distinct, LeavesBelow, Clusters}
-use Rattle.rules.specs.Table.{Row, children_below, named_twice, row_fault, table_fault, nodes_of, table_tree}
-use Rattle.basics.proofs.Bools.{or_cases, or_no, or_false, both}
-use Rattle.clades.proofs.Leaves.{has_left, has_right, has_cases}
-use Rattle.written_tables.specs.Nodes.{noded}
-use Rattle.read_tables.specs.Count.{bit, count}
+use Rattle.rules.specs.Tree.{has, Distinct, Clusters}
+use Rattle.rules.specs.Table.{Row}
+use Rattle.read_tables.specs.Count.{count}
 
 -- k is a child of the row, or was named before
 unfoldable pub named_also : (ℕ → Bool) → Row → ℕ → Bool

@@ -1,10 +1,6 @@
 -- The larger names of a tree: each of its inner nodes is the pair of exactly one of them. Main definitions: inner, Pair.
-use Rattle.std.specs.Prelude.{◌≡◌, refl, ◌≢◌, ◌⊎◌, Bool, true, false, ℕ, ◌<◌, min, max, eqb, ltb}
-use Rattle.std.proofs.Common.{sym, inl, inr, arith, ltb-true, ltb-false, eqb-true}
-use Rattle.std.proofs.lemmas.Bool.{eqb-false}
-use Rattle.rules.specs.Tree.{Tree, leaf, node, has, least, Distinct}
-use Rattle.basics.proofs.Bools.{or_cases}
-use Rattle.clades.proofs.Leaves.{has_left, has_right, least_has, least_apart}
+use Rattle.std.specs.Prelude.{◌≡◌, ◌⊎◌, ℕ, max}
+use Rattle.rules.specs.Tree.{Tree, leaf, node, least}
 
 -- 1 for an inner node
 unfoldable pub inner : Tree → ℕ

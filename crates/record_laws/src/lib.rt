@@ -1,3 +1,2 @@
-#![tactic(auto)]
-
 // What follows from the rules of the packed record. No code.
+#![tactic(auto)]

@@ -1,7 +1,6 @@
 -- "Of one number, the first place counts": the first of any number of places at which something is wrong, and what is said of it. Main definitions:
 -- Tells, first_below, FirstFound.
-use Rattle.std.specs.Prelude.{Bool, true, false, cond, ◌⊎◌, ◌≡◌, refl, ℕ, zero, suc, ◌<◌, ltb}
-use Rattle.std.proofs.Common.{inl, inr, ap, ◌∙◌, arith, eq-or-lt_of_le, le_of_suc-le-suc, ltb-true, ltb-false}
+use Rattle.std.specs.Prelude.{◌≡◌, ℕ, zero, suc, ◌<◌}
 use Rattle.std.proofs.Math.Option.{Option, none, some}
 use Rattle.rules.specs.First.{First}
 

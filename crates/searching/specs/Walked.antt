@@ -1,12 +1,9 @@
 -- A walk down a list, which tests each element with what it gathered from those before it, is a search over the list's places. Main definitions:
 -- Walk, gathered.
 use mathlib.Core.List.{List, [], ◌∷◌}
-use Rattle.std.specs.Prelude.{◌⊎◌, ◌↔◌, ◌≡◌, refl, ℕ, zero, suc, ◌+◌, ◌<◌, length, get_or}
-use Rattle.std.proofs.Common.{inl, inr, ◌∙◌, eq-or-lt_of_le, le_of_suc-le-suc}
-use Rattle.std.proofs.Math.Option.{Option, none, some}
-use Rattle.std.proofs.Math.Path.{sym, ap, ap₂}
-use native.Mathlib.Omega.{arith}
-use Rattle.searching.specs.First.{Tells, or_else, first_below, Below, FirstFound}
+use Rattle.std.specs.Prelude.{◌≡◌, ℕ, zero, suc, ◌+◌, get_or}
+use Rattle.std.proofs.Math.Option.{Option, none}
+use Rattle.searching.specs.First.{or_else}
 
 -- what is gathered from the first i elements; past the list the elements are all `past`
 unfoldable pub gathered : {S A : Type 0} → (S → A → S) → A → S → List A → ℕ → S

@@ -8,7 +8,6 @@ use Rattle.rules.specs.Tree.{Tree, leaf, node, least}
 use Rattle.rules.specs.Order.{ready, greater, best, is_merge, collapse, ordered, earlier, partner, entry_from, entry_at}
 use Rattle.basics.proofs.Bools.{and_false}
 use Rattle.basics.proofs.Cases.{by_lt, by_eq}
-use Rattle.basics.specs.Sums.{one}
 use Rattle.basics.proofs.Sums.{one_le, one_lt, one_lt_below}
 use Rattle.merging.specs.Once.{hit}
 use Rattle.merging.proofs.Once.{hit_same, hit_other}

@@ -1,18 +1,12 @@
 -- Falling trees: the larger name of each pair is smaller than those of the pairs under it. Their merges go n-1, n-2, .., 1. Main definitions: higher,
 -- tops, Falling, Left, Next, Down.
-use Rattle.std.specs.Prelude.{◌≡◌, refl, ◌≢◌, false, cond, List, [], ◌∷◌, ℕ, zero, suc, ◌+◌, ◌≤◌, ◌<◌, min, max, eqb, ltb}
-use Rattle.std.proofs.Common.{ap, ap₂, arith, lt-ltb, le-ltb, eq-eqb, ne_eqb}
-use Rattle.std.proofs.Math.Option.{none, some}
-use Rattle.rules.specs.Building.{Merge, follow}
+use Rattle.std.specs.Prelude.{◌≡◌, ◌≢◌, List, [], ◌∷◌, ℕ, zero, suc, ◌+◌, ◌≤◌, ◌<◌, max, ltb}
+use Rattle.std.proofs.Math.Option.{some}
+use Rattle.rules.specs.Building.{Merge}
 use Rattle.rules.specs.Tree.{Tree, leaf, node, least}
-use Rattle.rules.specs.Order.{ready, greater, best, is_merge, collapse, ordered, earlier, partner, entry_from, entry_at}
-use Rattle.basics.proofs.Bools.{and_false}
-use Rattle.basics.proofs.Cases.{by_lt, by_eq}
+use Rattle.rules.specs.Order.{best, collapse}
 use Rattle.basics.specs.Sums.{one}
-use Rattle.basics.proofs.Sums.{one_le, one_lt, one_lt_below}
 use Rattle.merging.specs.Once.{hit}
-use Rattle.merging.proofs.Once.{hit_same, hit_other}
-use Rattle.shuffle_laws.specs.Count.{leaf_times}
 
 -- the larger name of the pair of two parts
 abbrev pub higher : Tree → Tree → ℕ

@@ -1,17 +1,8 @@
 -- Queue Shuffle over inner nodes alone: a leaf's label is known when its parent is taken. It gives the same labels in the same order. Main
 -- definitions: at_once, waiting, handed, fill, outcome.
-use Rattle.std.specs.Prelude.{◌≡◌, refl, List, [], ◌∷◌, ◌++◌, ℕ, zero, suc, ◌+◌, ◌-◌, ◌*◌, ◌≤◌, ◌<◌, length, get_or, set, drop}
-use Rattle.std.proofs.Common.{sym, ap, ◌∙◌, append_assoc, append-nil, arith, length-append, length-drop, length-set, get_or-append-add, get_or-drop, get_or-set_same, get_or-set_other, ext_get_or, eq-eqb, ne_eqb, lt-ltb}
-use Rattle.std.proofs.Math.ListN.{get_or-append}
-use Rattle.rules.specs.Tree.{Tree, leaf, node, least, size, LeavesBelow}
-use Rattle.rules.specs.Order.{listed}
-use Rattle.rules.specs.Shuffle.{Queue, Given, behind, taken, given, new_of}
-use Rattle.basics.proofs.Listed.{length_listed, listed_at}
-use Rattle.basics.proofs.Cases.{by_lt, by_eq}
-use Rattle.basics.proofs.Sums.{one_lt, one_ge}
-use Rattle.clades.proofs.Size.{size_below}
-use Rattle.merging.proofs.Once.{hit_same, hit_other}
-use Rattle.shuffle_laws.specs.Taken.{inner, inner_in, nodes, nodes_in, weigh, sum_given, leaf_given, all_given}
+use Rattle.std.specs.Prelude.{List, [], ◌∷◌, ◌++◌, ℕ, zero, suc, ◌+◌, set}
+use Rattle.rules.specs.Tree.{leaf, node}
+use Rattle.rules.specs.Shuffle.{Queue, Given, behind}
 
 -- the leaves of a queue with their labels, which are given at once, and the inner nodes, which wait
 unfoldable pub at_once : Queue → List Given

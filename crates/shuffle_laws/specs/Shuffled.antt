@@ -1,18 +1,11 @@
 -- The shuffled tree: each node in the queue has the least new leaf that is its label, and the pairs fall. So its vector is ordered. Main definitions:
 -- relabelled, Fits.
-use Rattle.std.specs.Prelude.{◌≡◌, refl, ◌≢◌, Bool, true, false, cond, List, [], ◌∷◌, ◌++◌, ℕ, zero, suc, ◌+◌, ◌-◌, ◌*◌, ◌≤◌, ◌<◌, min, max, ltb}
-use Rattle.std.proofs.Common.{sym, ap, ap₂, ◌∙◌, arith, eq-eqb, ne_eqb}
-use Rattle.rules.specs.Vector.{entry}
-use Rattle.rules.specs.Tree.{Tree, leaf, node, least, size, LeavesBelow}
-use Rattle.rules.specs.Order.{order, entry_at, vector_of}
-use Rattle.rules.specs.Shuffle.{renamed, Queue, Given, behind, taken, given, new_of}
-use Rattle.basics.proofs.Listed.{listed_at}
-use Rattle.basics.proofs.Sums.{one_le, one_lt_below}
-use Rattle.clades.proofs.Size.{size_below}
-use Rattle.merging.proofs.Once.{hit_same}
+use Rattle.std.specs.Prelude.{◌≡◌, [], ◌∷◌, ℕ, ◌<◌}
+use Rattle.rules.specs.Tree.{Tree, leaf, node, least}
+use Rattle.rules.specs.Shuffle.{Queue}
 use Rattle.shuffle_laws.specs.Count.{leaf_times}
-use Rattle.shuffle_laws.specs.Taken.{nodes, nodes_in, weigh, all_given}
-use Rattle.shuffle_laws.specs.Falling.{Falling, Down}
+use Rattle.shuffle_laws.specs.Taken.{weigh}
+use Rattle.shuffle_laws.specs.Falling.{Falling}
 
 -- the tree with leaf x renamed f x
 unfoldable pub relabelled : (ℕ → ℕ) → Tree → Tree

@@ -1,18 +1,8 @@
 -- What Queue Shuffle gives: each leaf one label, and each label below n to one leaf. Main definitions: inner, weigh, sum_given.
-use Rattle.std.specs.Prelude.{◌≡◌, refl, ◌≢◌, Bool, true, false, cond, List, [], ◌∷◌, ◌++◌, ℕ, zero, suc, ◌+◌, ◌-◌, ◌*◌, ◌≤◌, ◌<◌, ltb, length}
-use Rattle.std.proofs.Common.{sym, subst, ◌∙◌, add-one, arith, eq-eqb, ne_eqb}
-use Rattle.std.proofs.Math.Option.{none}
-use Rattle.rules.specs.Tree.{Tree, leaf, node, least, size, LeavesBelow}
-use Rattle.rules.specs.Order.{listed}
-use Rattle.rules.specs.Shuffle.{permutation_fault, Queue, Given, behind, taken, given, new_of}
-use Rattle.basics.proofs.Cases.{by_eq}
-use Rattle.basics.specs.Sums.{one}
-use Rattle.basics.proofs.Sums.{one_le, one_lt, one_ge, one_lt_below}
-use Rattle.clades.proofs.Size.{size_below}
+use Rattle.std.specs.Prelude.{List, [], ◌∷◌, ℕ, zero, suc, ◌+◌, ◌-◌, ◌*◌}
+use Rattle.rules.specs.Tree.{Tree, leaf, node, size}
+use Rattle.rules.specs.Shuffle.{Queue, Given, taken}
 use Rattle.merging.specs.Once.{hit}
-use Rattle.merging.proofs.Once.{hit_same, hit_other}
-use Rattle.shuffle_laws.specs.Count.{leaf_times}
-use Rattle.shuffle_laws.specs.Permutation.{Permutes}
 
 -- how many inner nodes, and how many nodes a tree has
 unfoldable pub inner : Tree → ℕ

@@ -1,14 +1,10 @@
 -- The rows of a table, zipped from two lists: the first and the second child of each row; row t has the parent n + t. Main definitions: zipped_rows,
 -- NodesFrom, Tabled.
-use Rattle.std.specs.Prelude.{◌≡◌, refl, List, [], ◌∷◌, ℕ, zero, suc, ◌+◌, ◌-◌, ◌≤◌, ◌<◌, length, get_or}
-use Rattle.std.proofs.Common.{sym, ap, ◌∙◌, arith, ext_get_or}
+use Rattle.std.specs.Prelude.{◌≡◌, List, [], ◌∷◌, ℕ, zero, suc, ◌+◌, ◌-◌, ◌<◌, get_or}
 use Rattle.std.proofs.Math.Option.{none}
 use Rattle.rules.specs.Tree.{Tree, leaf, node, Clusters, LeavesBelow}
 use Rattle.rules.specs.Table.{Row, table_fault, nodes_of, table_tree}
-use Rattle.clades.proofs.Size.{size_below}
 use Rattle.clades.specs.Form.{Turned}
-use Rattle.written_tables.proofs.Nodes.{leaf_of, node_of, stands_row, accepted_stands}
-use Rattle.shuffle_laws.specs.Rows.{renamed_child, renamed_row, renamed_rows}
 
 -- k rows from row t on
 unfoldable pub zipped_from : ℕ → List ℕ → List ℕ → ℕ → ℕ → List Row

@@ -1,12 +1,8 @@
 -- What the readers of a text ask and answer: where one may begin, and what it leaves where it reads a label, a tree, or breaks off.
 -- Main definitions: Same, recorded, MayBegin, Labelled, Took, Broke, Answers, TextTook.
-use Rattle.std.specs.Prelude.{◌≡◌, List, ◌⊎◌, ℕ, ◌+◌, ◌-◌, ◌*◌, ◌≤◌, ◌<◌, length, drop, get_or}
+use Rattle.std.specs.Prelude.{List, ℕ, ◌≤◌, ◌<◌, length}
 use Rattle.std.proofs.Common.{inl, inr, arith}
-use Rattle.rules.specs.Newick.{Text}
-use Rattle.rules.specs.Tree.{Tree, leaf, node}
-use Rattle.grammar.specs.Reading.{Reader, read, broken, label_read}
-use Rattle.grammar.specs.Pairs.{pair_count}
-use Rattle.text_laws.specs.Cells.{cell, leaf_in, opened, pair_in, shut, begun}
+use Rattle.grammar.specs.Reading.{Reader}
 use Rattle.text_laws.specs.Answers.{Answers}
 
 -- the place where they end may be looked at

@@ -4,7 +4,7 @@ use Rattle.std.specs.Prelude.{◌≡◌, refl, true, false, List, ℕ, suc, ◌+
 use Rattle.std.proofs.Common.{ap, sym, ◌∙◌, arith}
 use Rattle.rules.specs.Newick.{is_digit}
 use Rattle.rules.specs.Tree.{leaf}
-use Rattle.grammar.specs.Reading.{read, more_digits, label_read}
+use Rattle.grammar.specs.Reading.{read, more_digits}
 use Rattle.grammar.proofs.Complete.{no_more}
 use Rattle.text_laws.specs.Cells.{leaf_in}
 use Rattle.text_laws.specs.Answers.{Same, Labelled}

@@ -2,11 +2,9 @@
 -- pairs_there, marks_there, table_recorded.
 use Rattle.std.specs.Prelude.{◌≡◌, refl, Bool, true, false, cond, ◌||◌, List, [], ◌∷◌, ◌++◌, map, ℕ, ◌+◌, ◌-◌, ◌*◌, ◌/◌, ◌%◌, ◌≤◌, ◌<◌, length, set, take, drop}
 use Rattle.std.proofs.Common.{ap, ap₂, sym, subst, ◌∙◌, append_assoc, arith, length-append, take_at}
-use Rattle.std.proofs.Math.Option.{none}
 use Rattle.std.proofs.lemmas.List.{length-map}
 use Rattle.std.proofs.lemmas.List.Edits.{sets, sets-eq}
 use Rattle.rules.specs.Tree.{Tree, leaf, node, has, LeavesBelow}
-use Rattle.rules.specs.Table.{Row, table_fault, table_tree}
 use Rattle.basics.proofs.Mapped.{map_append}
 use Rattle.grammar.proofs.Stores.{sets_append}
 use Rattle.grammar.specs.Pairs.{pair_count, child_code, pairs_from}

@@ -1,7 +1,6 @@
 -- What the readers of a text ask and answer: where one may begin, and what it leaves where it reads a label, a tree, or breaks off.
 -- Main definitions: Same, recorded, MayBegin, Labelled, Took, Broke, Answers, TextTook.
 use Rattle.std.specs.Prelude.{◌≡◌, List, ◌⊎◌, ℕ, ◌+◌, ◌-◌, ◌*◌, ◌≤◌, ◌<◌, length, drop, get_or}
-use Rattle.std.proofs.Common.{inl, inr, arith}
 use Rattle.rules.specs.Newick.{Text}
 use Rattle.rules.specs.Tree.{Tree, leaf, node}
 use Rattle.grammar.specs.Reading.{Reader, read, broken, label_read}

@@ -1,15 +1,9 @@
 -- The array that what is read of a text goes to: its cells, and what each store leaves of them. Main definitions: cell, leaf_in, opened, pair_in,
 -- shut, broken_in, begun, Closing.
-use Rattle.std.specs.Prelude.{◌≡◌, Bool, List, ℕ, ◌+◌, ◌-◌, ◌*◌, ◌≤◌, ◌<◌, get_or, replicate}
-use Rattle.std.proofs.Math.Path.{refl, ap}
-use Rattle.std.proofs.Common.{◌∙◌}
-use Rattle.std.proofs.Math.Bool.{true, false, cond}
-use native.Mathlib.Omega.{arith}
+use Rattle.std.specs.Prelude.{◌≡◌, List, ℕ, ◌+◌, ◌-◌, ◌*◌, ◌≤◌, ◌<◌, get_or}
+use Rattle.std.proofs.Math.Bool.{cond}
 use Rattle.std.proofs.Math.Dec.{eqb, ltb}
-use Rattle.std.proofs.Math.ListN.{length, set, drop, length-set, get_or-eq_default}
-use Rattle.std.proofs.lemmas.List.{length-replicate, get_or-replicate}
-use Rattle.std.proofs.Math.Seq.{drop-set-lt, drop-set-add, get_or-set_same, get_or-set_other}
-use borrow.Author.Tests.{eqb-true, eqb-false, ltb-true, ltb-false, lt-ltb, le-ltb, eq-eqb, ne_eqb}
+use Rattle.std.proofs.Math.ListN.{set}
 
 -- The cells of the array m: 0 has the node that was read last, 4 the pair that closes next, 8 how many brackets may still open and one,
 -- 12 where the bytes break off; the marks of the labels stand from 16 on, the pairs from 1040 on. Pairs are numbered from 16,384 on.

@@ -1,16 +1,10 @@
 -- How the answers of the node reader and the pair reader are made of one another. Main definitions: FirstRead, SecondRead.
-use Rattle.std.specs.Prelude.{◌≡◌, refl, false, get_or, drop}
-use Rattle.std.proofs.Math.Path.{ap, sym, subst}
-use Rattle.std.proofs.Common.{ap₂, ◌∙◌, inl, inr, arith}
+use Rattle.std.specs.Prelude.{◌≡◌, get_or}
 use mathlib.Core.List.{List}
-use Prim.Native.Nat.{ℕ, zero, suc, ◌+◌, ◌-◌, ◌≤◌, ◌<◌}
-use Rattle.std.proofs.Math.ListN.{length, get_or-eq_default}
-use Rattle.rules.specs.Newick.{is_digit}
-use Rattle.rules.specs.Tree.{Tree, leaf, node}
-use Rattle.grammar.specs.Reading.{Reader, read, broken, sign, seq, and_then, node_read, pair_read}
-use Rattle.grammar.specs.Pairs.{pair_count}
-use Rattle.text_laws.specs.Cells.{cell, leaf_in, opened, pair_in, shut, broken_in, Closing}
-use Rattle.text_laws.specs.Answers.{recorded, MayBegin, Labelled, Took, Broke, Answers}
+use Prim.Native.Nat.{ℕ, ◌+◌, ◌-◌}
+use Rattle.grammar.specs.Reading.{node_read}
+use Rattle.text_laws.specs.Cells.{cell, opened}
+use Rattle.text_laws.specs.Answers.{MayBegin, Answers}
 
 -- the first node of a pair is read, which ends at x
 pub record FirstRead (signs s : List ℕ) (at : ℕ) (m m₁ : List ℕ) (x : ℕ) : Type 0 where

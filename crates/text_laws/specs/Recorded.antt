@@ -1,23 +1,12 @@
 -- What a tree that is read leaves in the array: its pairs, which are an accepted table of it, and the marks of its leaves. Main definitions:
 -- recorded_rows, TableOf.
-use Rattle.std.specs.Prelude.{◌≡◌, refl, Bool, true, false, cond, ◌||◌, List, [], ◌∷◌, ◌++◌, map, ℕ, ◌+◌, ◌-◌, ◌*◌, ◌/◌, ◌%◌, ◌≤◌, ◌<◌, length, set, take, drop}
-use Rattle.std.proofs.Common.{ap, ap₂, sym, subst, ◌∙◌, append_assoc, arith, length-append, take_at}
+use Rattle.std.specs.Prelude.{◌≡◌, List, map, ℕ, ◌+◌, ◌-◌, ◌*◌, length, take}
 use Rattle.std.proofs.Math.Option.{none}
-use Rattle.std.proofs.lemmas.List.{length-map}
-use Rattle.std.proofs.lemmas.List.Edits.{sets, sets-eq}
-use Rattle.rules.specs.Tree.{Tree, leaf, node, has, LeavesBelow}
+use Rattle.rules.specs.Tree.{Tree}
 use Rattle.rules.specs.Table.{Row, table_fault, table_tree}
-use Rattle.basics.proofs.Mapped.{map_append}
-use Rattle.grammar.proofs.Stores.{sets_append}
-use Rattle.grammar.specs.Pairs.{pair_count, child_code, pairs_from}
-use Rattle.grammar.proofs.Pairs.{pairs_length, size_pairs}
+use Rattle.grammar.specs.Pairs.{pair_count, child_code}
 use Rattle.written_tables.specs.Tied.{tied}
-use Rattle.grammar.specs.Closed.{child_number, closed_rows}
-use Rattle.grammar.proofs.Closed.{closed_length, closed_accepted, closed_tree, leaves_small}
-use Rattle.grammar.specs.Bounds.{SecondsBelow}
-use Rattle.grammar.proofs.Bounds.{pairs_small}
-use Rattle.clades.proofs.Size.{size_below}
-use Rattle.text_laws.specs.Cells.{cell, opened, pair_in, shut}
+use Rattle.text_laws.specs.Cells.{cell}
 use Rattle.text_laws.specs.Answers.{recorded}
 use Rattle.text_laws.specs.Numbered.{first_number, second_number}
 

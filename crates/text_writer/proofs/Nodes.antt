@@ -79,9 +79,6 @@ module _ {n : ℕ} {left right words : List ℕ} {k : ℕ} {text : List ℕ} {at
     right_is : get_or right (k - n) 0 ≡ r
     right_is = omega (arith, word, W.rows.left_below (k - n) row, few, P.there)
 
-    pub word_fits : get_or words k 0 < 4294967296
-    word_fits = omega (arith, word, W.rows.left_below (k - n) row, W.rows.right_below (k - n) row, few, P.there)
-
     pub left_child : l < k
     left_child = omega (arith, left_is, W.rows.left_below (k - n) row)
 

@@ -1,6 +1,5 @@
 // The tie between the demands and the functions: each public function, and each C function, under the promise that the theorems of
-// `demands` are about. A function whose contract promises less leaves its line here unproved. There is no proof file but for the two over a
-// slice of structs, which are walks by hand: both say the same.
+// `demands` are about. A function whose contract promises less leaves its line here unproved. There is no proof file: both say the same.
 #![tactic(auto)]
 
 ghost use Rattle.rules.specs.Coded.{Hands};

@@ -1,5 +1,5 @@
 -- A table that is written is accepted when it is read. Main results: rows_accepted, table_accepted, pairs_accepted, pairs_below.
-use Rattle.std.specs.Prelude.{◌≡◌, refl, Bool, true, false, ◌||◌, List, [], ◌∷◌, ℕ, ◌+◌, ◌-◌, ◌≤◌, ◌<◌, eqb, length, get_or}
+use Rattle.std.specs.Prelude.{◌≡◌, refl, Bool, true, false, ◌||◌, List, [], ◌∷◌, ℕ, ◌+◌, ◌-◌, ◌<◌, eqb, length, get_or}
 use Rattle.std.proofs.Common.{sym, ◌∙◌, arith, eqb-true, eq-eqb, ne_eqb, lt-ltb}
 use Rattle.std.proofs.Math.Option.{none}
 use Rattle.std.proofs.lemmas.Bool.{eqb-false}

@@ -3,7 +3,6 @@ use Rattle.std.specs.Prelude.{◌≡◌, refl, Bool, true, false, cond, List, []
 use Rattle.std.proofs.Common.{sym, ap, ap₂, ◌∙◌, add-zero, arith, eq-eqb, ne_eqb}
 use Rattle.rules.specs.Building.{Merge}
 use Rattle.rules.specs.Table.{Row, rows_from, flat}
-use Rattle.merging.specs.Insertion.{pairs}
 use Rattle.merging.specs.Greedy.{Under}
 use Rattle.merging.specs.Named.{Rising}
 use Rattle.written_tables.proofs.Flat.{flat_length}

@@ -1,8 +1,8 @@
 -- Rows given by their children alone, and the trees of their nodes. Main results: tied_length, tied_at, tree_leaf, tree_pair, tree_whole.
 use Rattle.std.specs.Prelude.{◌≡◌, refl, List, [], ◌∷◌, ℕ, zero, suc, ◌+◌, ◌-◌, ◌≤◌, ◌<◌, length, get_or, take}
 use Rattle.std.proofs.Common.{ap, ap₂, sym, ◌∙◌, arith, add-zero, length-take, get_or-take}
-use Rattle.rules.specs.Tree.{Tree, leaf, node}
-use Rattle.rules.specs.Table.{Row, nodes_of, table_tree}
+use Rattle.rules.specs.Tree.{leaf, node}
+use Rattle.rules.specs.Table.{nodes_of, table_tree}
 use Rattle.written_tables.specs.Nodes.{CountUp}
 use Rattle.written_tables.proofs.Nodes.{nodes_keep, nodes_row}
 use Rattle.written_tables.specs.Tied.{tied, tree_at, whole_tree}

@@ -1,10 +1,7 @@
 -- The nodes of rows whose parents count up: each is the pair of its row's children. Main definitions: CountUp, noded, Stands.
-use Rattle.std.specs.Prelude.{◌≡◌, refl, Bool, true, false, not, ◌||◌, cond, List, [], ◌∷◌, ℕ, zero, suc, ◌+◌, ◌<◌, eqb, ltb, length, get_or}
-use Rattle.std.proofs.Common.{sym, ap, ap₂, ◌∙◌, arith, ltb-true, eqb-true, eq-eqb, ne_eqb}
-use Rattle.std.proofs.Math.Option.{Option, none, some, none-ne-some}
-use Rattle.rules.specs.Tree.{leaf, node, Clusters}
-use Rattle.rules.specs.Table.{Row, Fault, children_below, named_twice, row_fault, table_fault, nodes_of}
-use Rattle.basics.proofs.Bools.{and_both}
+use Rattle.std.specs.Prelude.{◌≡◌, cond, List, [], ◌∷◌, ℕ, ◌+◌, ◌<◌, eqb}
+use Rattle.rules.specs.Tree.{node, Clusters}
+use Rattle.rules.specs.Table.{Row}
 
 -- the parents are p, p + 1, ..
 unfoldable pub CountUp : ℕ → List Row → Type 0

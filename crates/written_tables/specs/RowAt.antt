@@ -1,8 +1,6 @@
 -- The rows of a table in its numbers. Main definition: row_at.
-use Rattle.std.specs.Prelude.{◌≡◌, List, [], ◌∷◌, ◌++◌, ℕ, zero, suc, ◌+◌, ◌*◌, ◌<◌, length, get_or, take, drop}
-use Rattle.std.proofs.Math.Path.{refl}
-use Rattle.std.proofs.Common.{sym, ap, ◌∙◌, arith, drop-cons, take-suc}
-use Rattle.rules.specs.Table.{Row, rows_of}
+use Rattle.std.specs.Prelude.{List, ℕ, ◌+◌, ◌*◌, get_or}
+use Rattle.rules.specs.Table.{Row}
 
 -- row t of the numbers
 unfoldable pub row_at : List ℕ → ℕ → Row

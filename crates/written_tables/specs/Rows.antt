@@ -1,12 +1,8 @@
 -- The rows of merges: a row for each, whose parents count up. Main definitions: first, second, vector_rows, renumber, Inside.
-use Rattle.std.specs.Prelude.{◌≡◌, refl, Bool, true, false, cond, List, [], ◌∷◌, map, ℕ, zero, suc, ◌+◌, ◌*◌, ◌<◌, eqb, length, drop, get_or}
-use Rattle.std.proofs.Common.{sym, ap, ap₂, ◌∙◌, add-zero, arith, eq-eqb, ne_eqb}
+use Rattle.std.specs.Prelude.{cond, List, [], ◌∷◌, ℕ, ◌<◌, eqb, length}
 use Rattle.rules.specs.Building.{Merge}
-use Rattle.rules.specs.Table.{Row, rows_from, flat}
+use Rattle.rules.specs.Table.{Row, rows_from}
 use Rattle.merging.specs.Insertion.{pairs}
-use Rattle.merging.specs.Greedy.{Under}
-use Rattle.merging.specs.Named.{Rising}
-use Rattle.written_tables.specs.Tied.{tied}
 
 -- the children of a row
 abbrev pub first : Row → ℕ

@@ -1,9 +1,7 @@
 -- Rows given by their children alone, and the trees of their nodes. Main definitions: tied, tree_at, whole_tree.
-use Rattle.std.specs.Prelude.{◌≡◌, refl, List, [], ◌∷◌, ℕ, zero, suc, ◌+◌, ◌-◌, ◌≤◌, ◌<◌, length, get_or, take}
-use Rattle.std.proofs.Common.{ap, ap₂, sym, ◌∙◌, arith, add-zero, length-take, get_or-take}
-use Rattle.rules.specs.Tree.{Tree, leaf, node}
-use Rattle.rules.specs.Table.{Row, nodes_of, table_tree}
-use Rattle.written_tables.specs.Nodes.{CountUp}
+use Rattle.std.specs.Prelude.{List, [], ◌∷◌, ℕ, ◌+◌, ◌-◌, take}
+use Rattle.rules.specs.Tree.{Tree, leaf}
+use Rattle.rules.specs.Table.{Row, nodes_of}
 
 -- rows with these children, whose parents count up from p
 unfoldable pub tied : ℕ → List ℕ → List ℕ → List Row

@@ -1,4 +1,4 @@
--- `bits::field_at` meets its contract: the shift and the mask take the field out of the four bytes where it starts (`value-word`).
+-- `bits::field_at` meets its contract: the shift and the mask take the field out of the four bytes where it starts (`value_word`).
 use native.Mathlib.Omega.{arith}
 use mathlib.Core.Path.{◌≡◌, sym, ap, ◌∙◌}
 use Prim.Native.Nat.{ℕ, ◌+◌, ◌*◌, ◌/◌, ◌%◌}

@@ -1,4 +1,4 @@
--- `bits::read_four` meets its contract: each field by the shifts and the mask (`four-there`).
+-- `bits::read_four` meets its contract: each field by the shifts and the mask (`four_there`).
 use native.Mathlib.Omega.{arith}
 use mathlib.Core.Path.{refl}
 use lib.ListN.{length-set}

@@ -1,4 +1,4 @@
--- `words::eight_inside` meets its contract: four bytes and the four behind them (`word-eight`).
+-- `words::eight_inside` meets its contract: four bytes and the four behind them (`word_eight`).
 use native.Mathlib.Omega.{arith}
 use Rattle.record_laws.proofs.Window.{word_eight}
 use Rattle.words.proofs.eight_inside.Goals as goal

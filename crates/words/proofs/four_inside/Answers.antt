@@ -1,4 +1,4 @@
--- `words::four_inside` meets its contract: the four bytes are the word (`word-four`).
+-- `words::four_inside` meets its contract: the four bytes are the word (`word_four`).
 use borrow.Author.Rules.{rules}
 use mathlib.Core.Path.{sym, ◌∙◌}
 use Rattle.record_laws.proofs.Window.{word_four}

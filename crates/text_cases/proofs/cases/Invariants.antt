@@ -1,0 +1,10 @@
+use mathlib.Core.Path.{◌≡◌}
+use Prim.Native.Nat.{◌-◌}
+use lib.ListN.{length}
+use Rattle.text_cases.proofs.cases.Given as goal
+
+abbrev pub invariant-loop-index : goal.invariant-loop-index
+invariant-loop-index l = (length l.text ≡ length l.initial.text) × (length l.numbers ≡ length l.initial.numbers)
+
+abbrev pub decreases-loop-index : goal.decreases-loop-index
+decreases-loop-index l = 4294967295 - l.index
