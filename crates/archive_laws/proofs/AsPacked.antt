@@ -23,7 +23,8 @@ use Rattle.record_laws.proofs.FromRecord.{counted}
 use Rattle.record_laws.specs.Inverse.{row}
 use Rattle.record_laws.proofs.Inverse.{row_length, zeros_unset}
 use Rattle.archive_laws.specs.Bare.{bare_pad}
-use Rattle.archive_laws.proofs.Bare.{bare_bits, bare_length_bits}
+use Rattle.archive_laws.proofs.Bare.{bare_length_bits}
+use Rattle.archive_laws.proofs.BareFields.{bare_bits}
 use Rattle.archive_laws.specs.Reader.{HasTree}
 use Rattle.archive_laws.proofs.Reader.{record_size, reader_inside}
 use Rattle.archive_laws.specs.AsPacked.{as_packed, then_padding}

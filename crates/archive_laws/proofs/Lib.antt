@@ -9,3 +9,5 @@ pub mod Only
 pub mod Reader
 pub mod Writer
 pub mod Written
+pub mod BareFields
+pub mod ReaderView

@@ -1,18 +1,17 @@
 -- What the reader of tree r makes, and which part the view is: by the frame, and then by the bits of record r. Main results: reader_inside,
--- reader_refused; view_inside, view_refused; entry_refused, padding_refused, tree_accepted, only_accepted, read_vector.
-use Rattle.std.specs.Prelude.{true, false, List, [], ◌≡◌, length, drop}
+-- reader_refused; part_inside, part_refused; entry_refused, padding_refused, tree_accepted, only_accepted, read_vector.
+use Rattle.std.specs.Prelude.{true, false, List, ◌≡◌, length}
 use Rattle.std.proofs.Math.Option.{none, some}
 use Rattle.std.proofs.Math.Path.{ap}
 use Rattle.std.proofs.Common.{subst, ◌∙◌, arith, length-take, length-drop}
 use Prim.Native.Nat.{ℕ, ◌-◌, ◌≤◌, ◌<◌}
-use Rattle.std.proofs.Math.ListN.{take}
 use Rattle.rules.specs.Vector.{fault, Vector}
 use Rattle.rules.specs.Record.{leaf_count, entries_in, padding_in, any_set}
 use Rattle.rules.specs.Archive.{trees_in, bare_length, implied_length, record_at, packed_at}
 use Rattle.rules.specs.Answer.{made, refuses}
 use Rattle.rules.specs.CallUnpack.{from_bits}
 use Rattle.rules.specs.CallReadTree.{read_tree}
-use Rattle.rules.specs.CallView.{part_made, part_of, view}
+use Rattle.rules.specs.CallView.{part_made, part_of}
 use Rattle.basics.proofs.Fault.{no_fault_valid}
 use Rattle.record_laws.proofs.FromBits.{entry_in_bits, padding_in_bits, bits_accepted, bits_made, length_entries_in}
 use Rattle.archive_laws.proofs.Framed.{record_ends, framed_passes, frame_refuses, framed_made}
@@ -39,18 +38,10 @@ module _ (s : List ℕ) (r : ℕ) where
   unfolding part_of part_made
   part_inside F = ap part_made (framed_passes (length s) (leaf_count s) (trees_in s) r _ F)
 
-  pub view_inside : HasTree s r → view s r ≡ record_at (leaf_count s) s r
-  unfolding view record_at
-  view_inside F = ap (λ (p : ℕ × ℕ). take p.1 (drop p.0 s)) (part_inside F)
-
   -- "empty where the reader gives 1, 2 or 12"
   pub part_refused : {k p : ℕ} → NoTree s r k p → part_of s r ≡ (0, 0)
   unfolding part_of part_made
   part_refused R = ap part_made (frame_refuses (length s) (leaf_count s) (trees_in s) r _ R)
-
-  pub view_refused : {k p : ℕ} → NoTree s r k p → view s r ≡ []
-  unfolding view
-  view_refused R = ap (λ (p : ℕ × ℕ). take p.1 (drop p.0 s)) (part_refused R)
 
   -- "then 4 and 10 with 01's places within the record": 4 at the entry, 10 at the record's last byte
   pub entry_refused : (i : ℕ) → HasTree s r → fault 0 (entries_in (leaf_count s) (packed_at (leaf_count s) s r)) ≡ some i → read_tree s r ≡ refuses 4 i

@@ -13,10 +13,12 @@ use Rattle.rules.specs.Archive.{header, trees_in, bare_length, bare_record, impl
 use Rattle.rules.specs.CallWriteArchive.{cut, fault_at, fault_in, most_trees, write_archive}
 use Rattle.rules.specs.CallReadTree.{read_tree}
 use Rattle.rules.specs.CallView.{view}
-use Rattle.archive_laws.proofs.Bare.{length_bare, from_bare}
+use Rattle.archive_laws.proofs.Bare.{length_bare}
+use Rattle.archive_laws.proofs.BareFields.{from_bare}
 use Rattle.archive_laws.proofs.Header.{length_header, leaves_read, trees_read}
 use Rattle.archive_laws.specs.Reader.{HasTree}
-use Rattle.archive_laws.proofs.Reader.{reader_inside, view_inside}
+use Rattle.archive_laws.proofs.Reader.{reader_inside}
+use Rattle.archive_laws.proofs.ReaderView.{view_inside}
 use Rattle.archive_laws.specs.Written.{Trees, joined}
 
 pub tree_at : (n : ℕ) (vs : List (List ℕ)) → Trees n vs → (r : ℕ) → r < length vs → Valid (get_or vs r []) × (length (get_or vs r []) ≡ n)

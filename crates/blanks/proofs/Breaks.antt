@@ -1,6 +1,6 @@
 -- Texts as sent: the tree, what begins one, and the place where bytes as sent break, by what is kept of them.
 -- Main results: sent_unique, text_signs, plain_sent, sent_begins, kept_text, kept_breaks, sent_decided, plain_exactly, plain_breaks.
-use Rattle.std.specs.Prelude.{◌≡◌, Bool, false, ◌⊎◌, ◌↔◌, ℕ, suc, ◌≤◌, ◌<◌, length, take}
+use Rattle.std.specs.Prelude.{◌≡◌, Bool, false, ◌⊎◌, ℕ, suc, ◌≤◌, ◌<◌, length, take}
 use Rattle.std.proofs.Math.Path.{refl, ap, subst}
 use Rattle.std.proofs.Common.{sym, ◌∙◌, inl, inr, arith}
 use Rattle.std.proofs.Math.Bool.{true, true≢false}
@@ -11,7 +11,6 @@ use Rattle.rules.specs.Sent.{signs, parted, SentText}
 use Rattle.rules.specs.Tree.{Tree}
 use Rattle.basics.proofs.Bools.{or_no}
 use Rattle.grammar.proofs.Complete.{text_unique, decided}
-use Rattle.grammar.proofs.Unique.{text_no_break, breaks_unique}
 use Rattle.blanks.specs.Marks.{Last, other, digit, gap, at_gap, behind_digit, parted_from, last_of, ends_in_digit}
 use Rattle.blanks.proofs.Marks.{signs_append, parted_append, last_digit, digit_at_end}
 use Rattle.blanks.specs.Kept.{kept}
@@ -19,7 +18,7 @@ use Rattle.blanks.proofs.Kept.{whole_kept, kept_digit}
 use Rattle.blanks.specs.Places.{place_of, There, sign, parting, end, PlaceOf}
 use Rattle.blanks.proofs.Places.{place_of_lem}
 use Rattle.blanks.specs.Plain.{blankless}
-use Rattle.blanks.proofs.Plain.{blankless_behind, blankless_signs, text_blankless, clean_unparted, clean_behind, plain_kept, plain_place}
+use Rattle.blanks.proofs.Plain.{blankless_behind, blankless_signs, text_blankless, clean_unparted, clean_behind}
 use Rattle.blanks.specs.Cut.{Going}
 use Rattle.blanks.proofs.Cut.{cut_text}
 
@@ -30,11 +29,6 @@ sent_unique a b = text_unique a.reads b.reads
 -- a text is its own signs, and a text as sent
 pub text_signs : {s : List ℕ} {t : Tree} → Text s t → signs s ≡ s
 text_signs {s} {t} h = blankless_signs s (text_blankless h)
-
-pub plain_sent : {s : List ℕ} {t : Tree} → Text s t → SentText s t
-unfolding at_gap parted_from
-plain_sent {s} {t} h =
-    record { reads = subst (λ (x : List ℕ). Text x t) (sym (text_signs h)) h; whole = clean_unparted other s (text_blankless h) refl }
 
 -- what some text as sent begins with: no label is parted, and some text begins with the signs
 module _ (s : List ℕ) (w : parted s ≡ false) where
@@ -135,7 +129,7 @@ module _ (s : List ℕ) where
           (ended (subst (Begins SentText) (ap (λ (j : ℕ). take j s) h ∙ take-length s) whole)
           (λ t T. fails t (subst (λ (x : List ℕ). Text x t) (sym (whole_kept other s e)) T.reads)))
 
-  breaks_within : {k : ℕ} → BreaksAt Text K k → k ≤ length K
+  pub breaks_within : {k : ℕ} → BreaksAt Text K k → k ≤ length K
   breaks_within (broken l b fails) = omega arith
   breaks_within (ended b fails) = omega arith
 
@@ -150,21 +144,3 @@ sent_decided s = go (decided (kept s))
     go : ((t : Tree) × Text (kept s) t) ⊎ ((k : ℕ) × BreaksAt Text (kept s) k) → ((t : Tree) × SentText s t) ⊎ ((k : ℕ) × BreaksAt SentText s k)
     go (inl (t, h)) = inl (t, kept_text s t h)
     go (inr (k, h)) = inr (place_of s k, kept_breaks s k h)
-
--- Bytes without blanks are a text as sent exactly when they are a text, and break exactly where they break the grammar: for them nothing is new.
-module _ (s : List ℕ) (plain : signs s ≡ s) where
-  pub plain_exactly : (t : Tree) → SentText s t ↔ Text s t
-  plain_exactly t = (λ T. subst (λ (x : List ℕ). Text x t) plain T.reads, plain_sent)
-
-  breaks_plain : (k : ℕ) → BreaksAt Text s k → BreaksAt SentText s k
-  breaks_plain k b =
-      let all : kept s ≡ s = plain_kept s (ap length plain) in
-      let b' : BreaksAt Text (kept s) k = subst (λ (x : List ℕ). BreaksAt Text x k) (sym all) b in
-      subst (BreaksAt SentText s) (plain_place s k (ap length plain) (subst (λ (x : List ℕ). k ≤ length x) all (breaks_within s b'))) (kept_breaks s k b')
-
-  pub plain_breaks : (k : ℕ) → BreaksAt SentText s k ↔ BreaksAt Text s k
-  plain_breaks k = (λ b. go b (decided s), breaks_plain k)
-    where
-      go : BreaksAt SentText s k → ((t : Tree) × Text s t) ⊎ ((j : ℕ) × BreaksAt Text s j) → BreaksAt Text s k
-      go b (inl (t, T)) = absurd (text_no_break SentText (plain_sent T) b)
-      go b (inr (j, c)) = subst (BreaksAt Text s) (breaks_unique SentText (breaks_plain j c) b) c

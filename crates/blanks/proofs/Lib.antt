@@ -6,3 +6,4 @@ pub mod Labels
 pub mod Marks
 pub mod Places
 pub mod Plain
+pub mod PlainSent

@@ -6,3 +6,4 @@ pub mod Labels
 pub mod LastBelow
 pub mod Next
 pub mod Shortened
+pub mod Ended

@@ -1,6 +1,6 @@
 -- The inner leaf sets of a tree: they are the numbers of its clades of two leaves or more, n-1 of them, pairwise different. Main results:
 -- inner_clades, pair_occurs, inner_length, inner_different, inner_node, inner_lt.
-use Rattle.std.specs.Prelude.{◌≡◌, refl, ◌⊎◌, ◌↔◌, Bool, true, false, ◌||◌, List, [], ◌∷◌, ◌++◌, ℕ, ◌+◌, ◌-◌, ◌^◌, ◌≤◌, ◌<◌, eqb, length}
+use Rattle.std.specs.Prelude.{◌≡◌, refl, ◌⊎◌, ◌↔◌, Bool, true, false, ◌||◌, List, [], ◌∷◌, ◌++◌, ℕ, ◌+◌, ◌^◌, ◌≤◌, ◌<◌, eqb, length}
 use Rattle.std.proofs.Common.{sym, ap, ◌∙◌, inl, ⊎_elim, true≢false, arith, pow_pos, length-append, ltb-true, eqb-true, eq-eqb}
 use Rattle.std.proofs.Math.Logic.{inr}
 use Rattle.std.specs.Int.Count.{ones}
@@ -11,7 +11,7 @@ use Rattle.basics.proofs.Bools.{or_cases, or_left, or_right}
 use Rattle.basics.proofs.Cases.{by_test}
 use Rattle.clades.proofs.Leaves.{has_left, has_right, least_has, least_apart}
 use Rattle.clades.proofs.Same.{clade_in, clade_some, clade_cong}
-use Rattle.clades.proofs.Size.{size_some, size_below}
+use Rattle.clades.proofs.Size.{size_some}
 use Rattle.clade_laws.specs.Numbers.{Stands}
 use Rattle.clade_laws.proofs.Numbers.{leaf_bit, bits_equal, ones_size, number_lt}
 use Rattle.clade_laws.specs.Inner.{TwoOrMore, CladeNumber, Different, PairIn}
@@ -92,9 +92,6 @@ pub inner_length : (t : Tree) → length (inner t) + 1 ≡ size t
 unfolding inner size
 inner_length (leaf x) = omega arith
 inner_length (node l r) = omega (arith, length-append (inner l) (inner r), inner_length l, inner_length r)
-
-pub inner_length_below : (n : ℕ) (t : Tree) → LeavesBelow n t → length (inner t) ≡ n - 1
-inner_length_below n t L = omega (arith, inner_length t, size_below n t L)
 
 pub set_some : (t : Tree) → 1 ≤ leaf_set t
 unfolding leaf_set

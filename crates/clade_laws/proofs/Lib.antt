@@ -4,3 +4,5 @@ pub mod Inner
 pub mod Numbers
 pub mod Rising
 pub mod Totals
+pub mod InnerLength
+pub mod TableLength

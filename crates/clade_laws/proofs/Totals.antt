@@ -9,10 +9,11 @@ use Rattle.rules.specs.declared.Clade.{Clade as Entry}
 use Rattle.rules.specs.CladeTable.{inner, occurs, clade_table}
 use Rattle.basics.proofs.Cases.{by_test}
 use Rattle.clade_laws.specs.Inner.{Different}
-use Rattle.clade_laws.proofs.Inner.{member_head, member_tail, member_cases, inner_different, inner_length_below}
+use Rattle.clade_laws.proofs.Inner.{member_head, member_tail, member_cases, inner_different}
+use Rattle.clade_laws.proofs.InnerLength.{inner_length_below}
 use Rattle.clade_laws.proofs.Rising.{from_different}
 use Rattle.clade_laws.specs.Entries.{Each, leaves_of, IsTable, InSome}
-use Rattle.clade_laws.proofs.Entries.{table_is, table_same, table_counts}
+use Rattle.clade_laws.proofs.Entries.{table_is, table_same}
 use Rattle.clade_laws.specs.Totals.{sum_counts, sum_over, Reordered, same, swap, keep, after}
 
 over_cong : (f g : ℕ → ℕ) (l : List ℕ) → ((m : ℕ) → f m ≡ g m) → sum_over f l ≡ sum_over g l
@@ -85,14 +86,10 @@ pub counts_add_up : (n : ℕ) (ts : List Tree) (es : List Entry) → Each (Leave
 counts_add_up n ts es L T =
     counts_over ts es T.counts ∙ over_trees n ts (leaves_of es) L (from_different 0 (leaves_of es) T.rises) (λ m p. (T.holds m).1 p)
 
-counts_some : (es : List Entry) (k : ℕ) → Each (λ e. (1 ≤ e.count) × (e.count ≤ k)) es → length es ≤ sum_counts es
+pub counts_some : (es : List Entry) (k : ℕ) → Each (λ e. (1 ≤ e.count) × (e.count ≤ k)) es → length es ≤ sum_counts es
 unfolding Each sum_counts
 counts_some [] k c = omega arith
 counts_some (e ∷ es) k c = omega (arith, c.0.0, counts_some es k c.1)
-
--- so there are at most as many entries
-pub table_length : (n : ℕ) (ts : List Tree) (es : List Entry) → Each (LeavesBelow n) ts → IsTable ts es → length es ≤ length ts * (n - 1)
-table_length n ts es L T = omega (arith, counts_add_up n ts es L T, counts_some es (length ts) (table_counts ts es T))
 
 reordered_occurs : {ts us : List Tree} → Reordered ts us → (m : ℕ) → occurs m ts ≡ occurs m us
 unfolding occurs

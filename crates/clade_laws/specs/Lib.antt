@@ -3,7 +3,7 @@
 -- "its leaf set as a 64-bit number (leaf x is bit x)"
 --     Numbers.leaf_bit, same_number, bits_equal; below 2^n: Inner.inner_lt.
 -- "each different clade of two leaves or more"
---     Inner.inner_clades, pair_occurs; n-1 of them in a tree, different: Inner.inner_length_below, inner_different.
+--     Inner.inner_clades, pair_occurs; n-1 of them in a tree, different: InnerLength.inner_length_below, Inner.inner_different.
 -- "its size, and in how many trees it occurs"
 --     Entries.table_sizes, table_counts, count_in_table; by clades as sets: Counted.occurs_counted, pair_counted, counted_once.
 -- "Entries rise by leaf set."

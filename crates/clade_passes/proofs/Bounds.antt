@@ -16,7 +16,7 @@ use Rattle.clade_laws.specs.Rising.{From}
 use Rattle.clade_laws.proofs.Inner.{member_head, member_tail, inner_some, inner_lt}
 use Rattle.clade_laws.specs.Entries.{Each, leaves_of, InSome}
 use Rattle.clade_laws.proofs.Entries.{each_member, table_is, table_counts}
-use Rattle.clade_laws.proofs.Totals.{table_length}
+use Rattle.clade_laws.proofs.TableLength.{table_length}
 use Rattle.clade_passes.specs.Collected.{new_entry, one_more, add_entry, collected}
 use Rattle.clade_passes.proofs.Collected.{add_from, times_member}
 use Rattle.clade_passes.specs.Merged.{merged_sets, merged_into, vector_sets, archive_sets}

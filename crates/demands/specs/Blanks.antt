@@ -6,7 +6,8 @@ use Rattle.rules.specs.Newick.{Text}
 use Rattle.rules.specs.Sent.{signs, parted, SentText}
 use Rattle.rules.specs.Answer.{made}
 use Rattle.rules.specs.CallFromNewick.{FromText}
-use Rattle.blanks.proofs.Breaks.{text_signs, plain_sent}
+use Rattle.blanks.proofs.Breaks.{text_signs}
+use Rattle.blanks.proofs.PlainSent.{plain_sent}
 use Rattle.blanks.proofs.FromText.{from_text_unique}
 use Rattle.demands.specs.Leads.{text, Leads}
 use Rattle.demands.specs.DemandTwo.{leaves_accepted}

@@ -32,7 +32,7 @@ use Rattle.archive_laws.proofs.Again.{written_then_read}
 use Rattle.archive_laws.specs.AsPacked.{as_packed}
 use Rattle.archive_laws.proofs.AsPacked.{packed_of_bare}
 use Rattle.clades.proofs.Size.{size_some, size_below}
-use Rattle.blanks.proofs.Breaks.{plain_sent}
+use Rattle.blanks.proofs.PlainSent.{plain_sent}
 use Rattle.blanks.proofs.Labels.{sent_labels}
 use Rattle.grammar.proofs.Faults.{leaves_no_fault, leaves_count}
 use Rattle.grammar.proofs.Length.{text_length_lem, text_length_most}

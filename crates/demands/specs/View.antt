@@ -14,7 +14,8 @@ use Rattle.rules.specs.CallView.{part_of, view}
 use Rattle.archive_laws.specs.Framed.{Frame}
 use Rattle.archive_laws.proofs.Framed.{frame_number, framed_cases, record_ends}
 use Rattle.archive_laws.specs.Reader.{HasTree, NoTree}
-use Rattle.archive_laws.proofs.Reader.{record_size, part_inside, part_refused, view_inside, view_refused}
+use Rattle.archive_laws.proofs.Reader.{record_size, part_inside, part_refused}
+use Rattle.archive_laws.proofs.ReaderView.{view_inside, view_refused}
 use Rattle.demands.specs.LawReadTree.{TreeThere, TreeRefused, tree_short, tree_1, tree_2, tree_12, tree_4, tree_10, frame_refused, tree_there}
 use Rattle.demands.specs.Calls.{reads_tree, Lent, Kept}
 use Rattle.demands.specs.DemandOne.{RefusedWith, refused_exactly}

@@ -2,7 +2,7 @@
 --
 -- "At each step the largest i that still names a cluster and sees one labelled v(i) merges with that one."
 --     building Next.next_can_merge, next_largest, next_none. A leaf sees at most one cluster so labelled: building Labels.labels_apart, over the
---     states that a run reaches (Going.after_reached, reached_after). Some leaf can merge while two clusters are left: Going.two_left_go_on.
+--     states that a run reaches (Going.after_reached, Ended.reached_after). Some leaf can merge while two clusters are left: Ended.two_left_go_on.
 -- "the smallest label j has not used"
 --     building Labels.smallest_is_unused, smaller_are_used; in a run it is the next number: used_below.
 -- "After n-1 steps one cluster is left."

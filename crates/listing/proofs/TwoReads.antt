@@ -1,5 +1,5 @@
 -- The bytes of a record at the front of a lent list, in two reads: two bytes, and behind them those that these want.
--- Main results: first_two, length_kept; first_counts, none_wanted, more_wanted, all_counted.
+-- Main results: first_two, length_kept; more_wanted, all_counted.
 use mathlib.Core.List.{List, ◌++◌}
 use mathlib.Core.Logic.{◌≢◌}
 use mathlib.Core.Path.{◌≡◌, sym, ap, ◌∙◌}
@@ -18,15 +18,8 @@ first_two xs h = sym (length-take-le 2 xs (omega arith))
 pub length_kept : (back xs : List ℕ) → length back ≡ length (take 2 xs) → length (back ++ drop 2 xs) ≡ length xs
 length_kept back xs e = length_front xs back 2 e
 
-pub first_counts : (xs : List ℕ) {got : ℕ} → 1280 ≤ length xs → got ≤ 2 → IsPrefixLen got xs
-first_counts xs {got} enough few = prefix_len_of_le got xs (omega arith)
-
 -- got bytes were read of two, and these want w
 module _ (xs : List ℕ) {got w : ℕ} (enough : 1280 ≤ length xs) (few : got ≤ 2) (wants : w ≡ bytes_wanted (take got xs)) where
-  -- no more are wanted
-  pub none_wanted : w ≡ 2 → IsPrefixLen got xs × (got ≤ bytes_wanted (take got xs))
-  none_wanted e = (first_counts xs enough few, omega arith)
-
   -- where more are wanted there were two
   two_read : w ≢ 2 → got ≡ 2
   two_read d = by_eq got 2 (λ e. e) (λ n. absurd (d (wants ∙ wanted_begun (take got xs) (omega (arith, n, length-take-le got xs (omega arith))))))

@@ -1,11 +1,7 @@
 -- `list` meets its contract: each turn has the buffers it needs, and what unpack is done with is a vector whose line fits.
-use borrow.Author.Rules.{rules}
 use Prim.Native.Nat.{◌≤◌}
 use mathlib.Core.Path.{◌≡◌}
 use lib.ListN.{length}
-use Rattle.holding.specs.AnswerLine.{VectorFirst, vector_first}
-use Rattle.io.proofs.Counting.{length-take_of_le}
-use Rattle.listing_line.specs.Longest.{line_fits}
 use Rattle.listing.proofs.list.Given as goal
 
 abbrev pub invariant-loop-left : goal.invariant-loop-left
