@@ -12,7 +12,7 @@ use Rattle.searching.proofs.First.{found_first, found_none}
 use Rattle.accepting.proofs.Guards.{no_leaf, many_leaves, some_leaves}
 use Rattle.demands.specs.Conditions.{CountWrong, CountRight, Above, WithinBounds}
 use Rattle.rules.specs.First.{First}
-use Rattle.demands.specs.FirstPlace.{above_found}
+use Rattle.demands.proofs.FirstPlace.{above_found}
 
 -- the leaf count is wrong or right
 pub count_cases : (n : ℕ) → CountWrong n ⊎ CountRight n

@@ -3,8 +3,10 @@
 use Rattle.std.specs.Prelude.{List, refl, ℕ}
 use Rattle.rules.specs.Promise.{none}
 use Rattle.rules.specs.CallCheck.{check, check_call}
-use Rattle.demands.specs.Law.{Lawful, lawful_made}
-use Rattle.demands.specs.LawVector.{VectorRefused, settled_vector}
+use Rattle.demands.specs.Law.{Lawful}
+use Rattle.demands.proofs.Law.{lawful_made}
+use Rattle.demands.specs.LawVector.{VectorRefused}
+use Rattle.demands.proofs.LawVector.{settled_vector}
 
 pub lawful_check : (v : List ℕ) → Lawful (check_call v) (VectorRefused v) 0
 unfolding check

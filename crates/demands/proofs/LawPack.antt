@@ -5,8 +5,10 @@ use Rattle.rules.specs.Record.{record_of, record_length}
 use Rattle.rules.specs.Promise.{list}
 use Rattle.rules.specs.CallPack.{pack, pack_call}
 use Rattle.record_laws.proofs.Inverse.{length_record}
-use Rattle.demands.specs.Law.{Lawful, lawful_made}
-use Rattle.demands.specs.LawVector.{VectorRefused, settled_vector}
+use Rattle.demands.specs.Law.{Lawful}
+use Rattle.demands.proofs.Law.{lawful_made}
+use Rattle.demands.specs.LawVector.{VectorRefused}
+use Rattle.demands.proofs.LawVector.{settled_vector}
 
 pub lawful_pack : (v : List ℕ) → Lawful (pack_call v) (VectorRefused v) (record_length (length v))
 unfolding pack

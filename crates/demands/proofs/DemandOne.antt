@@ -7,9 +7,11 @@ use Rattle.std.proofs.Common.{inl, inr}
 use Rattle.rules.specs.declared.Answer.{Answer}
 use Rattle.rules.specs.declared.Answer.TheVariants.{Done, Refused}
 use Rattle.rules.specs.Answer.{done, refused, number_of, reads}
-use Rattle.demands.specs.Law as law
-use Rattle.demands.specs.Law.{Accepted, OneAnswer}
-use Rattle.demands.specs.Calls.{Public, the, Lent, Kept}
+use Rattle.demands.proofs.Law as law
+use Rattle.demands.specs.Law.{Accepted}
+use Rattle.demands.proofs.Law.{OneAnswer}
+use Rattle.demands.specs.Calls.{Public}
+use Rattle.demands.proofs.Calls.{the, Lent, Kept}
 
 -- a refusal of a call's input, with its number and its place, before room is looked at: each call's table stands in its file Law*
 abbrev pub InputRefused : Public → ℕ → ℕ → Type 0

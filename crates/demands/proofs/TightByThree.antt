@@ -12,12 +12,16 @@ use Rattle.rules.specs.Newick.{text_of}
 use Rattle.rules.specs.Record.{record_of}
 use Rattle.rules.specs.Archive.{archive_of}
 use Rattle.accepting.proofs.Answers.{reads_unique}
-use Rattle.demands.specs.Calls.{Lent}
-use Rattle.demands.specs.DemandTwo.{Vector, table_back, text_back, record_back, run_of_one, archive_back}
-use Rattle.demands.specs.Leads.{Input, vector, table, text, packed, archived, Leads, call_of, Fits, leads_done}
-use Rattle.demands.specs.DemandThree.{CladeOf, led, demand_three}
-use Rattle.demands.specs.EachCall.{Library, KeepsAll, Try}
-use Rattle.demands.specs.Tight.{first, second, done_is_written}
+use Rattle.demands.proofs.Calls.{Lent}
+use Rattle.demands.specs.DemandTwo.{Vector}
+use Rattle.demands.proofs.DemandTwo.{table_back, text_back, record_back, run_of_one, archive_back}
+use Rattle.demands.specs.Leads.{Input, vector, table, text, packed, archived, Leads, call_of}
+use Rattle.demands.proofs.Leads.{Fits, leads_done}
+use Rattle.demands.specs.DemandThree.{CladeOf}
+use Rattle.demands.proofs.DemandThree.{led, demand_three}
+use Rattle.demands.specs.EachCall.{Try}
+use Rattle.demands.proofs.EachCall.{Library, KeepsAll}
+use Rattle.demands.proofs.Tight.{first, second, done_is_written}
 
 -- the vector that a library gives: as many elements of the buffer as its answer counts; a vector that is checked is that vector
 abbrev pub got : (a : Input) → Lent (call_of a) → ℕ → List ℕ

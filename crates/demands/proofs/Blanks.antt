@@ -10,8 +10,9 @@ use Rattle.blanks.proofs.Breaks.{text_signs}
 use Rattle.blanks.proofs.PlainSent.{plain_sent}
 use Rattle.blanks.proofs.FromText.{from_text_unique}
 use Rattle.demands.specs.Leads.{text, Leads}
-use Rattle.demands.specs.DemandTwo.{leaves_accepted}
-use Rattle.demands.specs.DemandThree.{CladeOf, text_leads, demand_three}
+use Rattle.demands.proofs.DemandTwo.{leaves_accepted}
+use Rattle.demands.specs.DemandThree.{CladeOf}
+use Rattle.demands.proofs.DemandThree.{text_leads, demand_three}
 
 -- blanks stand "anywhere except inside a label": bytes that have the signs of an accepted text lead to its vector
 pub blanks_anywhere : (s s' w : List ℕ) → signs s ≡ signs s' → parted s' ≡ false → length s' ≤ 65536 → Leads (text s) w → Leads (text s') w

@@ -6,9 +6,11 @@ use Rattle.rules.specs.Tree.{tree_of}
 use Rattle.rules.specs.Promise.{lists}
 use Rattle.rules.specs.CallShuffle.{shuffle, shuffle_call}
 use Rattle.laws.proofs.TreeOf.{tree_size}
-use Rattle.demands.specs.Law.{Lawful, lawful_made}
-use Rattle.demands.specs.LawVector.{VectorRefused, settled_vector}
-use Rattle.demands.specs.Long.{new_long}
+use Rattle.demands.specs.Law.{Lawful}
+use Rattle.demands.proofs.Law.{lawful_made}
+use Rattle.demands.specs.LawVector.{VectorRefused}
+use Rattle.demands.proofs.LawVector.{settled_vector}
+use Rattle.demands.proofs.Long.{new_long}
 
 pub lawful_shuffle : (v : List ℕ) → Lawful (shuffle_call v) (VectorRefused v) (length v)
 unfolding shuffle

@@ -5,8 +5,10 @@ use Rattle.rules.specs.Tree.{tree_of}
 use Rattle.rules.specs.Newick.{text_of}
 use Rattle.rules.specs.Promise.{list}
 use Rattle.rules.specs.CallToNewick.{to_text, to_newick_call}
-use Rattle.demands.specs.Law.{Lawful, lawful_made}
-use Rattle.demands.specs.LawVector.{VectorRefused, settled_vector}
+use Rattle.demands.specs.Law.{Lawful}
+use Rattle.demands.proofs.Law.{lawful_made}
+use Rattle.demands.specs.LawVector.{VectorRefused}
+use Rattle.demands.proofs.LawVector.{settled_vector}
 
 pub lawful_to_newick : (v : List ℕ) → Lawful (to_newick_call v) (VectorRefused v) (length (text_of (tree_of v)))
 unfolding to_text

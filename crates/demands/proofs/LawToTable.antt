@@ -4,9 +4,11 @@ use Rattle.std.specs.Prelude.{List, ℕ, ◌-◌, ◌*◌, length}
 use Rattle.rules.specs.Table.{table_of}
 use Rattle.rules.specs.Promise.{list}
 use Rattle.rules.specs.CallToTable.{to_table, to_table_call}
-use Rattle.demands.specs.Law.{Lawful, lawful_made}
-use Rattle.demands.specs.LawVector.{VectorRefused, settled_vector}
-use Rattle.demands.specs.Long.{table_long}
+use Rattle.demands.specs.Law.{Lawful}
+use Rattle.demands.proofs.Law.{lawful_made}
+use Rattle.demands.specs.LawVector.{VectorRefused}
+use Rattle.demands.proofs.LawVector.{settled_vector}
+use Rattle.demands.proofs.Long.{table_long}
 
 pub lawful_to_table : (v : List ℕ) → Lawful (to_table_call v) (VectorRefused v) (3 * (length v - 1))
 unfolding to_table

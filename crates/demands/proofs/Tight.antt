@@ -20,14 +20,17 @@ use Rattle.rules.specs.Shuffle.{renamed, new_of}
 use Rattle.rules.specs.CladeTable.{trees_of, clade_table}
 use Rattle.rules.specs.CallCheck.{check}
 use Rattle.accepting.proofs.Answers.{done_not_refused}
-use Rattle.demands.specs.Calls.{Name, Public, call_to_table, the, Lent}
-use Rattle.demands.specs.Law.{done_made}
+use Rattle.demands.specs.Calls.{Name, Public, call_to_table}
+use Rattle.demands.proofs.Calls.{the, Lent}
+use Rattle.demands.proofs.Law.{done_made}
 use Rattle.demands.specs.Shapes.{flat, blank}
-use Rattle.demands.specs.DemandOne.{wanted, done_exactly, every_input_answered, promise_unique}
+use Rattle.demands.proofs.DemandOne.{wanted, done_exactly, every_input_answered, promise_unique}
 use Rattle.demands.specs.Relabelled.{unmoved}
-use Rattle.demands.specs.DemandTwo.{Vector, accepted_exactly, demand_two}
+use Rattle.demands.specs.DemandTwo.{Vector}
+use Rattle.demands.proofs.DemandTwo.{accepted_exactly, demand_two}
 use Rattle.demands.specs.EachCall.{Buffer, to_table_out, from_table_out, to_newick_out, from_newick_out, pack_out, unpack_out, shuffle_new, shuffle_out, relabel_out, write_archive_out, read_tree_out, clade_table_out}
-use Rattle.demands.specs.EachCall.{buffer_of, Library, KeepsAll, counts, Try, asks, asks_call, counted, lent, before, after, asked_done}
+use Rattle.demands.specs.EachCall.{Try}
+use Rattle.demands.proofs.EachCall.{buffer_of, Library, KeepsAll, counts, asks, asks_call, counted, lent, before, after, asked_done}
 
 -- the vectors that are tried: the trees (0,(1,2)); and ((0,1),2); and trees of one leaf and of five
 pub first_ok : Vector (0 ∷ 0 ∷ 1 ∷ [])

@@ -1,0 +1,3 @@
+pub mod Answered
+pub mod CladeTable
+pub mod Occurs
