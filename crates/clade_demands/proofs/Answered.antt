@@ -10,24 +10,22 @@ use Rattle.rules.specs.Building.{member}
 use Rattle.rules.specs.Record.{leaf_count}
 use Rattle.rules.specs.Archive.{trees_in}
 use Rattle.rules.specs.Answer.{done, refused, reads, made}
-use Rattle.rules.specs.CladeTable.{trees_of}
 use Rattle.rules.specs.CallCladeTable.{vectors_in, table_of_archive}
 use Rattle.basics.proofs.Bools.{both}
 use Rattle.clade_laws.proofs.Rising.{from_unique}
 use Rattle.clade_laws.specs.Entries.{leaves_of}
-use Rattle.clade_laws.specs.Totals.{Reordered}
 use Rattle.clade_passes.proofs.NoBytes.{vectors_of_one, one_leaf_table, no_trees_table}
 use Rattle.demands.proofs.Law.{made_accepted, done_made, done_written}
 use Rattle.demands.specs.LawReadTree.{Whole}
 use Rattle.demands.specs.LawCladeTable.{CladesRefused, FewLeaves, table_length}
 use Rattle.demands.proofs.LawCladeTable.{table_of_vectors}
-use Rattle.demands.specs.TreesRead.{AllRead}
 use Rattle.demands.specs.Calls.{call_clade_table}
-use Rattle.demands.proofs.Calls.{the, Kept}
+use Rattle.demands.proofs.Calls.{the}
+use Rattle.demands.proofs.Keeping.{Kept}
 use Rattle.demands.proofs.DemandOne.{Right, room_exactly}
 use Rattle.demands.proofs.DemandOne as one
 use Rattle.clade_demands.specs.CladeTable.{ArchiveRight, CladeTableOf, Sums}
-use Rattle.clade_demands.proofs.CladeTable.{rises_from, made_table, made_sums, table_made_exactly, archive_table, order_does_not_count}
+use Rattle.clade_demands.proofs.CladeTable.{rises_from, made_table, made_sums, table_made_exactly, archive_table}
 use Rattle.clade_demands.specs.Answered.{DifferentClades}
 
 same_clades : (s l k : List ℕ) → DifferentClades s l → DifferentClades s k → l ≡ k
@@ -114,13 +112,3 @@ module _ (s : List ℕ) (old new : List Entry) (a : Answer) (K : Kept (call_clad
   one_leaf_done w z =
       nothing_written
       (table_of_vectors s (omega arith, omega arith) w (replicate (trees_in s) (0 ∷ [])) (rw z (vectors_of_one s (trees_in s))) ∙ ap made (one_leaf_table (trees_in s)))
-
--- archives with the same trees in another order: the same count, and the same entries
-pub reordered_answers : (s t : List ℕ) (vs ws : List (List ℕ)) → AllRead s vs → AllRead t ws → Reordered (trees_of vs) (trees_of ws)
-    → (old new old' new' : List Entry) (a b : Answer) → Kept (call_clade_table s) old a new → Kept (call_clade_table t) old' b new'
-    → (j k : ℕ) → reads a ≡ done j → reads b ≡ done k → (j ≡ k) × (take j new ≡ take k new')
-reordered_answers s t vs ws A B again old new old' new' a b K L j k e f =
-    let x = done_table s old new a K j e in
-    let y = done_table t old' new' b L k f in
-    let z = order_does_not_count s t vs ws (take j new) (take k new') A B again x.0 y.0 in
-    (sym x.3 ∙ ap length z ∙ y.3, z)

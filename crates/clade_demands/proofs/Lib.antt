@@ -1,3 +1,4 @@
 pub mod Answered
 pub mod CladeTable
 pub mod Occurs
+pub mod Reordered

@@ -2,12 +2,11 @@
 -- in its file here (Law*).
 -- Main definitions: Name, Public, the, Lent, Kept.
 use Rattle.std.specs.Prelude.{ℕ, ◌-◌, ◌*◌, ◌/◌, length}
-use Rattle.rules.specs.declared.Answer.{Answer}
 use Rattle.rules.specs.Tree.{tree_of}
 use Rattle.rules.specs.Newick.{text_of, labels_of}
 use Rattle.rules.specs.Record.{record_length, leaf_count}
 use Rattle.rules.specs.Archive.{implied_length}
-use Rattle.rules.specs.Promise.{Call, Keeps}
+use Rattle.rules.specs.Promise.{Call}
 use Rattle.rules.specs.CallCheck.{check_call}
 use Rattle.rules.specs.CallToTable.{to_table_call}
 use Rattle.rules.specs.CallFromTable.{from_table_call}
@@ -75,11 +74,3 @@ the (writes_archive n xs) =
     known WriteArchive (write_archive_call n xs) one_buffer (ArchiveRefused n xs) (implied_length n (length xs / n)) (lawful_write_archive n xs)
 the (reads_tree s r) = known ReadTree (read_tree_call s r) one_buffer (TreeRefused s r) (leaf_count s) (lawful_read_tree s r)
 the (call_clade_table s) = known CladeTable (clade_table_call s) entry_buffer (CladesRefused s) (table_length s) (lawful_clade_table s)
-
--- the buffers that are lent to a call
-abbrev pub Lent : Public → Type 0
-Lent c = (the c).Lent
-
--- the promise of a public call, as its function gives it
-abbrev pub Kept : (c : Public) → Lent c → Answer → Lent c → Type 0
-Kept c = Keeps (the c).call

@@ -11,7 +11,8 @@ use Rattle.demands.proofs.Law as law
 use Rattle.demands.specs.Law.{Accepted}
 use Rattle.demands.proofs.Law.{OneAnswer}
 use Rattle.demands.specs.Calls.{Public}
-use Rattle.demands.proofs.Calls.{the, Lent, Kept}
+use Rattle.demands.proofs.Calls.{the}
+use Rattle.demands.proofs.Keeping.{Lent, Kept}
 
 -- a refusal of a call's input, with its number and its place, before room is looked at: each call's table stands in its file Law*
 abbrev pub InputRefused : Public → ℕ → ℕ → Type 0

@@ -48,7 +48,8 @@ use Rattle.demands.proofs.LawCheck.{lawful_check}
 use Rattle.demands.proofs.LawFromNewick.{labels_fit}
 use Rattle.demands.proofs.Long.{table_long}
 use Rattle.demands.specs.Calls.{Public, call_to_table, call_from_table, to_newick, from_newick, packs, unpacks, shuffles, relabels, writes_archive, reads_tree}
-use Rattle.demands.proofs.Calls.{the, Lent, Kept}
+use Rattle.demands.proofs.Calls.{the}
+use Rattle.demands.proofs.Keeping.{Lent, Kept}
 use Rattle.demands.proofs.DemandOne.{room}
 use Rattle.demands.specs.Relabelled.{Permutation, Relabelled, Shuffled}
 use Rattle.demands.proofs.Relabelled.{relabelled, relabel_makes, shuffled, shuffle_makes}

@@ -16,7 +16,7 @@ use Rattle.accepting.proofs.Answers.{reads_unique}
 use Rattle.archive_laws.specs.Local.{Alike}
 use Rattle.archive_laws.proofs.Local.{read_local, part_local}
 use Rattle.demands.specs.Calls.{reads_tree}
-use Rattle.demands.proofs.Calls.{Kept}
+use Rattle.demands.proofs.Keeping.{Kept}
 use Rattle.demands.specs.View.{PartIsRecord, PartIsEmpty}
 use Rattle.demands.proofs.View.{record_or_empty}
 use Rattle.demands.specs.Depends.{Counts, all_written, none_written, SameReading}
@@ -67,13 +67,6 @@ module _ (s t : List ℕ) (r : ℕ) (A : Alike s t r) where
   pub answer_depends : (old old' : List ℕ) (a b : Answer) (new new' : List ℕ) → length old ≡ length old'
       → Kept (reads_tree s r) old a new → Kept (reads_tree t r) old' b new' → SameReading a b old new old' new'
   answer_depends old old' a b new new' l P Q = same_reading (read_tree s r) old old' l a b new new' P (rw (read_local s t r A) Q)
-
-  -- and into one output the whole of it
-  pub output_depends : (old : List ℕ) (a b : Answer) (new new' : List ℕ)
-      → Kept (reads_tree s r) old a new → Kept (reads_tree t r) old b new' → (a ≡ b) × (new ≡ new')
-  output_depends old a b new new' P Q =
-      let S = answer_depends old old a b new new' refl P Q in
-      (S.same_answer, S.first ∙ sym S.second)
 
   -- the view is the same part, and the same bytes
   pub part_depends : part_of s r ≡ part_of t r

@@ -1,12 +1,9 @@
 -- Each public call by itself: its buffers, and for every valid vector an input of the call to which it answers done; for the clade table, for every
 -- one of up to 64 entries. Main results: no_buffer_missed, asked, asked_done.
-use Rattle.std.specs.Prelude.{List, [], ◌∷◌, ◌≡◌, refl, ℕ, ◌≤◌, length, get_or, replicate}
-use Rattle.std.proofs.Math.Path.{ap}
-use Rattle.std.proofs.Common.{ap₂, arith}
-use Rattle.std.proofs.Math.ListN.{length-replicate}
+use Rattle.std.specs.Prelude.{List, [], ◌∷◌, ◌≡◌, refl, ℕ, ◌≤◌, length, get_or}
+use Rattle.std.proofs.Common.{ap₂}
 use Rattle.rules.specs.declared.Answer.{Answer}
-use Rattle.rules.specs.declared.Answer.TheVariants.{Done}
-use Rattle.rules.specs.Answer.{reads, made}
+use Rattle.rules.specs.Answer.{made}
 use Rattle.rules.specs.Tree.{tree_of}
 use Rattle.rules.specs.Order.{vector_of}
 use Rattle.rules.specs.Table.{table_of}
@@ -15,17 +12,17 @@ use Rattle.rules.specs.Record.{record_of}
 use Rattle.rules.specs.Archive.{archive_of}
 use Rattle.rules.specs.Shuffle.{renamed, new_of}
 use Rattle.rules.specs.CladeTable.{trees_of, clade_table}
-use Rattle.accepting.proofs.Answers.{reads_unique}
 use Rattle.demands.specs.Calls.{Name, Check, ToTable, FromTable, ToNewick, FromNewick, Pack, Unpack, Shuffle, Relabel, WriteArchive, ReadTree, CladeTable}
 use Rattle.demands.specs.Calls.{Public, checks, call_to_table, call_from_table, to_newick, from_newick, packs, unpacks, shuffles, relabels, writes_archive, reads_tree, call_clade_table}
-use Rattle.demands.proofs.Calls.{the, Lent, Kept}
+use Rattle.demands.proofs.Calls.{the}
+use Rattle.demands.proofs.Keeping.{Lent, Kept}
 use Rattle.demands.proofs.Shapes.{same_entries}
 use Rattle.demands.proofs.TreesRead.{table_of_one}
 use Rattle.demands.specs.Relabelled.{unmoved}
 use Rattle.demands.proofs.Relabelled.{unmoved_permutes, relabel_makes, shuffle_makes}
 use Rattle.demands.specs.DemandTwo.{Vector}
-use Rattle.demands.proofs.DemandTwo.{accepted_exactly, makes_table, makes_text, makes_record, makes_archive_of_one, table_back, text_back, record_back, run_of_one, archive_back, writes}
-use Rattle.demands.specs.EachCall.{Buffer, to_table_out, from_table_out, to_newick_out, from_newick_out, pack_out, unpack_out, shuffle_new, shuffle_out, relabel_out, write_archive_out, read_tree_out, clade_table_out, Try}
+use Rattle.demands.proofs.DemandTwo.{accepted_exactly, makes_table, makes_text, makes_record, makes_archive_of_one, table_back, text_back, record_back, run_of_one, archive_back}
+use Rattle.demands.specs.EachCall.{Buffer, to_table_out, from_table_out, to_newick_out, from_newick_out, pack_out, unpack_out, shuffle_new, shuffle_out, relabel_out, write_archive_out, read_tree_out, clade_table_out}
 
 -- what buffer j holds
 abbrev pub buffer_of : ℕ → (c : Public) → Lent c → List ℕ
@@ -87,37 +84,3 @@ asked WriteArchive v ok few = ask (writes_archive (length v) v) (archive_of (len
 asked ReadTree v ok few = ask (reads_tree (archive_of (length v) (v ∷ [])) 0) v (archive_back v (v ∷ []) 0 (run_of_one v ok))
 asked CladeTable v ok few =
     ask (call_clade_table (archive_of (length v) (v ∷ []))) (clade_table (trees_of (v ∷ []))) (table_of_one v ok (few refl))
-
-module _ (k : Name) (t : Try) where
-  -- the call is asked with it
-  abbrev A : Asked k
-  A = asked k t.0 t.1 (λ e. t.2)
-
-  abbrev pub asks : Public
-  asks = A.input
-
-  pub asks_call : (the asks).name ≡ k
-  asks_call = A.called
-
-  -- how many elements the call writes
-  abbrev pub counted : ℕ
-  counted = counts asks A.gives
-
-  -- buffers of that many elements are lent, each 7
-  abbrev pub lent : Lent asks
-  lent = (the asks).shape.lend (replicate counted 7)
-
-  -- what buffer j holds before and after
-  abbrev pub before : ℕ → List ℕ
-  before j = buffer_of j asks lent
-
-  abbrev pub after : ℕ → List ℕ
-  after j = buffer_of j asks ((the asks).call.buffers.write A.gives lent)
-
-  -- a library that keeps its promises is done there, and leaves that
-  pub asked_done : (library : Library) → KeepsAll library → ((library asks lent).0 ≡ Done counted) × ((j : ℕ) → buffer_of j asks (library asks lent).1 ≡ after j)
-  unfolding reads
-  asked_done library keeps =
-      let e = writes asks A.gives A.makes lent (library asks lent).1 (library asks lent).0 (keeps asks lent)
-      ((the asks).shape.fits A.gives (replicate counted 7) (omega (arith, length-replicate {A = ℕ} counted 7))) in
-      (reads_unique (library asks lent).0 (Done counted) e.0, λ j. ap (buffer_of j asks) e.1)

@@ -26,11 +26,8 @@ use Rattle.demands.proofs.FirstPlace.{label_found}
 use Rattle.demands.proofs.Cases.{count_cases, count_given, count_passes}
 use Rattle.demands.specs.Law.{OfInput, Settled, Lawful}
 use Rattle.demands.proofs.Long.{vector_long}
+use Rattle.demands.proofs.LabelFaults.{not_both}
 use Rattle.demands.specs.LawFromNewick.{Stray, Double, FirstUnfit, TextRefused, text_2, text_2_signs, text_8, text_1, text_9, text_13}
-
--- The first label at fault never is both: the label before it that is the same would be not below n, too. So the order at one label never tells.
-pub not_both : (s : List ℕ) (i : ℕ) → FirstUnfit s i → Stray s i → Double s i → ⊥
-not_both s i f stray (j, before, same) = f.1 j before (omega (arith, f.0.0), inl (omega arith))
 
 -- what a text makes whose labels are looked at: 1, then 9 and 13
 labels_wrong : (s : List ℕ) (t : Tree) → CountWrong (length (labels_of s)) → from_labels s t ≡ refuses 1 0

@@ -5,7 +5,8 @@ use Rattle.std.proofs.Common.{arith}
 use Rattle.rules.specs.declared.Answer.{Answer}
 use Rattle.rules.specs.Answer.{done, reads}
 use Rattle.demands.specs.Calls.{checks, call_from_table, from_newick, unpacks, reads_tree}
-use Rattle.demands.proofs.Calls.{the, Lent, Kept}
+use Rattle.demands.proofs.Calls.{the}
+use Rattle.demands.proofs.Keeping.{Lent, Kept}
 use Rattle.demands.proofs.Law.{done_made, done_written}
 use Rattle.demands.specs.Leads.{Input, vector, table, text, packed, archived, Leads, call_of}
 

@@ -33,3 +33,9 @@ pub mod TreesRead
 pub mod View
 pub mod WrittenTable
 pub mod WrittenText
+pub mod DependsWhole
+pub mod LabelFaults
+pub mod Got
+pub mod BlanksSigns
+pub mod Asks
+pub mod Keeping

@@ -21,7 +21,8 @@ use Rattle.rules.specs.CladeTable.{trees_of, clade_table}
 use Rattle.rules.specs.CallCheck.{check}
 use Rattle.accepting.proofs.Answers.{done_not_refused}
 use Rattle.demands.specs.Calls.{Name, Public, call_to_table}
-use Rattle.demands.proofs.Calls.{the, Lent}
+use Rattle.demands.proofs.Calls.{the}
+use Rattle.demands.proofs.Keeping.{Lent}
 use Rattle.demands.proofs.Law.{done_made}
 use Rattle.demands.specs.Shapes.{flat, blank}
 use Rattle.demands.proofs.DemandOne.{wanted, done_exactly, every_input_answered, promise_unique}
@@ -30,7 +31,8 @@ use Rattle.demands.specs.DemandTwo.{Vector}
 use Rattle.demands.proofs.DemandTwo.{accepted_exactly, demand_two}
 use Rattle.demands.specs.EachCall.{Buffer, to_table_out, from_table_out, to_newick_out, from_newick_out, pack_out, unpack_out, shuffle_new, shuffle_out, relabel_out, write_archive_out, read_tree_out, clade_table_out}
 use Rattle.demands.specs.EachCall.{Try}
-use Rattle.demands.proofs.EachCall.{buffer_of, Library, KeepsAll, counts, asks, asks_call, counted, lent, before, after, asked_done}
+use Rattle.demands.proofs.EachCall.{buffer_of, Library, KeepsAll, counts}
+use Rattle.demands.proofs.Asks.{asks, asks_call, counted, lent, before, after, asked_done}
 
 -- the vectors that are tried: the trees (0,(1,2)); and ((0,1),2); and trees of one leaf and of five
 pub first_ok : Vector (0 ∷ 0 ∷ 1 ∷ [])

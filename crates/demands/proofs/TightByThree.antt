@@ -12,7 +12,7 @@ use Rattle.rules.specs.Newick.{text_of}
 use Rattle.rules.specs.Record.{record_of}
 use Rattle.rules.specs.Archive.{archive_of}
 use Rattle.accepting.proofs.Answers.{reads_unique}
-use Rattle.demands.proofs.Calls.{Lent}
+use Rattle.demands.proofs.Keeping.{Lent}
 use Rattle.demands.specs.DemandTwo.{Vector}
 use Rattle.demands.proofs.DemandTwo.{table_back, text_back, record_back, run_of_one, archive_back}
 use Rattle.demands.specs.Leads.{Input, vector, table, text, packed, archived, Leads, call_of}
@@ -22,14 +22,7 @@ use Rattle.demands.proofs.DemandThree.{led, demand_three}
 use Rattle.demands.specs.EachCall.{Try}
 use Rattle.demands.proofs.EachCall.{Library, KeepsAll}
 use Rattle.demands.proofs.Tight.{first, second, done_is_written}
-
--- the vector that a library gives: as many elements of the buffer as its answer counts; a vector that is checked is that vector
-abbrev pub got : (a : Input) → Lent (call_of a) → ℕ → List ℕ
-got (vector v) after count = v
-got (table n xs) after count = take count after
-got (text s) after count = take count after
-got (packed s) after count = take count after
-got (archived s r) after count = take count after
+use Rattle.demands.proofs.Got.{got}
 
 elements : (x old after : List ℕ) (count : ℕ) → after ≡ over x old → count ≡ length x → x ≡ take count after
 elements x old after count h e = sym (ap (take count) h ∙ take_at x (drop (length x) old) count (sym e))

@@ -16,7 +16,7 @@ use Rattle.archive_laws.proofs.ReaderView.{view_inside, view_refused}
 use Rattle.demands.specs.LawReadTree.{TreeThere, TreeRefused, tree_short, tree_1, tree_2, tree_12, tree_4, tree_10}
 use Rattle.demands.proofs.LawReadTree.{frame_refused, tree_there}
 use Rattle.demands.specs.Calls.{reads_tree}
-use Rattle.demands.proofs.Calls.{Lent, Kept}
+use Rattle.demands.proofs.Keeping.{Lent, Kept}
 use Rattle.demands.proofs.DemandOne.{RefusedWith, refused_exactly}
 use Rattle.demands.specs.View.{OneTwoTwelve, NoTreeGiven, PartIsRecord, PartIsEmpty}
 

@@ -55,7 +55,7 @@
 --     View.view_is_the_record, view_empty_exactly, beside the reader's promise; one or the other: record_or_empty. What the part of a written archive
 --     holds: DemandTwo.demand_two, archive_part.
 -- "The answer about tree r depends on the header, the archive's length, r, the output's length and record r's bytes only."
---     Depends.answer_depends: the same answer and the same elements written; output_depends: into one output the whole of it. The view:
+--     Depends.answer_depends: the same answer and the same elements written; DependsWhole.output_depends: into one output the whole of it. The view:
 --     part_depends, view_depends.
 -- "Demands 2 and 3 read archive records as packed records with that n."
 --     DemandTwo.demand_two: archive_as_packed. DemandThree: an archive and a number r are the fifth kind of input (archived); archived_as_packed:
@@ -75,7 +75,7 @@
 -- "The writer still writes none."
 --     DemandTwo.demand_two: text_of_the_tree, no_blank of WrittenText.
 -- "Demand 3 reads such a text as its signs without blanks."
---     Blanks.text_as_signs: an accepted text leads where its signs lead, and has their clades; same_signs_same_vector: two accepted texts that differ
+--     BlanksSigns.text_as_signs: an accepted text leads where its signs lead, and has their clades; same_signs_same_vector: two accepted texts that differ
 --     in blanks only lead to the same vector.
 -- "2 is now given first for a text above 65,536 bytes (place 65536), then for more than 6,056 bytes that aren't blanks (place 6056)."
 --     LawFromNewick.TextRefused, text_2 and text_2_signs.
@@ -88,7 +88,7 @@
 --     reader of tree r reads, TreesRead.each_tree_read; of an archive that is written, those of its vectors: TreesRead.table_written.
 -- "The counts, each defined from the trees and not from the table, add up to trees times (n-1)."
 --     clade_demands CladeTable.Sums, add_up; a count is defined by the reader and by 01's clades: Occurs.HasClade, HowMany. In whatever order the trees
---     stand: CladeTable.order_does_not_count, Answered.reordered_answers.
+--     stand: CladeTable.order_does_not_count, Reordered.reordered_answers.
 -- "Refusals: the archive's header refusals, with 14 for n above 64 (place n) directly after 1; then 4 and 10 tree by tree;"
 --     LawCladeTable.CladesRefused, in DemandOne.refused_exactly as those of every call. None is given exactly where n is up to 64, the length is the
 --     implied one and the reader reads every tree: clade_demands Answered.right_exactly.

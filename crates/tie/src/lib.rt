@@ -6,7 +6,8 @@ ghost use Rattle.rules.specs.Coded.{Hands};
 ghost use Rattle.std.specs.Prelude.{[], ◌∷◌, ◌≡◌};
 ghost use Rattle.rules.specs.CallView.{part_of, view};
 ghost use Rattle.demands.specs.Calls.{checks, call_to_table, call_from_table, to_newick, from_newick, packs, unpacks, shuffles, relabels, writes_archive, reads_tree, call_clade_table};
-ghost use Rattle.demands.proofs.Calls.{the, Kept};
+ghost use Rattle.demands.proofs.Calls.{the};
+ghost use Rattle.demands.proofs.Keeping.{Kept};
 
 use rules::{Answer, Clade, Part};
 
