@@ -1,5 +1,5 @@
 -- Texts that differ in blanks only: "Demand 3 reads such a text as its signs without blanks."
--- Main results: blanks_anywhere, text_as_signs, same_signs_same_vector.
+-- Main results: blanks_anywhere.
 use Rattle.std.specs.Prelude.{false, List, ◌≡◌, refl, ℕ, ◌≤◌, length}
 use Rattle.std.proofs.Common.{subst}
 use Rattle.rules.specs.Newick.{Text}

@@ -1,6 +1,6 @@
 -- The public calls. A new call adds a line to each of the lists here; what it makes stands in its file of rules (Call*), when it refuses
 -- in its file here (Law*).
--- Main definitions: Name, Public, the, Lent, Kept.
+-- Main definition: the.
 use Rattle.std.specs.Prelude.{ℕ, ◌-◌, ◌*◌, ◌/◌, length}
 use Rattle.rules.specs.Tree.{tree_of}
 use Rattle.rules.specs.Newick.{text_of, labels_of}

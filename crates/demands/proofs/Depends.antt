@@ -1,6 +1,6 @@
 -- CR 1: "The answer about tree r depends on the header, the archive's length, r, the output's length and record r's bytes only." Two archives that
 -- are alike in these (archive_laws, Local.Alike) give the same answer and the same elements, whatever the rest of them and the output held. Main
--- results: answer_depends, output_depends, part_depends, view_depends.
+-- results: answer_depends, part_depends, view_depends.
 use Rattle.std.specs.Prelude.{Bool, cond, List, [], ◌++◌, ◌⊎◌, ◌≡◌, leb, length, drop}
 use Rattle.std.proofs.Math.Bool.{true, false}
 use Rattle.std.proofs.Common.{true≢false, inl, inr, ◌∙◌, arith}

@@ -1,5 +1,5 @@
 -- Each public call by itself: its buffers, and for every valid vector an input of the call to which it answers done; for the clade table, for every
--- one of up to 64 entries. Main results: no_buffer_missed, asked, asked_done.
+-- one of up to 64 entries. Main results: no_buffer_missed, asked.
 use Rattle.std.specs.Prelude.{List, [], ◌∷◌, ◌≡◌, refl, ℕ, ◌≤◌, length, get_or}
 use Rattle.std.proofs.Common.{ap₂}
 use Rattle.rules.specs.declared.Answer.{Answer}

@@ -1,5 +1,5 @@
 -- Newick to vector: when it refuses, and that it writes an element a label. What is made is a relation: it is total, and one thing. Main results:
--- not_both, label_refused, label_cases, labels_fit, lawful_from_newick.
+-- label_refused, label_cases, labels_fit, lawful_from_newick.
 use Rattle.std.specs.Prelude.{List, [], ◌⊎◌, ◌≡◌, refl, ℕ, length}
 use Rattle.std.proofs.Common.{inl, inr, sym, ap, ◌∙◌, subst, arith}
 use Rattle.std.proofs.Math.Option.{none, some}

@@ -1,5 +1,5 @@
 -- Demand 3 of what a library gives, and so against a library that gives one fixed vector.
--- Main definitions: got, OnlyGives. Main results: three_of_what_is_given; not_one_vector_of_tables, not_one_vector_of_texts,
+-- Main definitions: OnlyGives. Main results: three_of_what_is_given; not_one_vector_of_tables, not_one_vector_of_texts,
 -- not_one_vector_of_records, not_one_vector_of_archives.
 use Rattle.std.specs.Prelude.{Bool, ◌||◌, List, [], ◌∷◌, ◌↔◌, ◌≡◌, refl, ℕ, eqb, length, take, drop}
 use Rattle.std.proofs.Common.{true≢false, inl, inr, sym, ap, ◌∙◌, subst, arith, take_at}

@@ -1,6 +1,6 @@
 -- The public calls. A new call adds a line to each of the lists here; what it makes stands in its file of rules (Call*), when it refuses
 -- in its file here (Law*).
--- Main definitions: Name, Public, the, Lent, Kept.
+-- Main definitions: Name, Public. proofs/Calls.antt has what each call is (the), with its laws.
 use Rattle.std.specs.Prelude.{List, ℕ}
 
 -- the public calls

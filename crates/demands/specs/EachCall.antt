@@ -1,5 +1,5 @@
 -- Each public call by itself: its buffers, and for every valid vector an input of the call to which it answers done; for the clade table, for every
--- one of up to 64 entries. Main definitions: Buffer, buffer_of, Library, KeepsAll, Asked, Try.
+-- one of up to 64 entries. Main definitions: Buffer, Try.
 use Rattle.std.specs.Prelude.{List, ℕ, ◌≤◌, length}
 use Rattle.demands.specs.Calls.{Name, ToTable, FromTable, ToNewick, FromNewick, Pack, Unpack, Shuffle, Relabel, WriteArchive, ReadTree, CladeTable}
 use Rattle.demands.specs.DemandTwo.{Vector}

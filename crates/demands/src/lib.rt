@@ -1,2 +1,2 @@
-// The three demands: no code here; specs/ has the theorems, and specs/Lib.antt is the page to read.
+// The three demands: no code here; proofs/ has the theorems, and specs/Lib.antt is the page to read.
 #![tactic(auto)]
