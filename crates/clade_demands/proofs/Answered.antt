@@ -1,5 +1,5 @@
 -- CR 4 over the public promise: what the answer about a clade table says, and what the lent list then holds. Main results: right_exactly,
--- different_clades, done_table, reordered_answers, refused_15_exactly, done_exactly, no_trees_done, one_leaf_done.
+-- different_clades, done_table, refused_15_exactly, done_exactly, no_trees_done, one_leaf_done.
 use Rattle.std.specs.Prelude.{◌⊎◌, ◌↔◌, ◌≡◌, refl, ℕ, suc, ◌≤◌, ◌<◌, length, take, drop, replicate}
 use mathlib.Core.List.{List, [], ◌∷◌}
 use Rattle.std.proofs.Common.{inl, inr, sym, ◌∙◌, arith, take_at, drop_at}

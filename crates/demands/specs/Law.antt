@@ -1,5 +1,4 @@
--- Demand 1 for any call: what follows once it is known when the call refuses. One proof for all calls. Main definitions: Settled, Lawful,
--- RefusedWith, OneAnswer.
+-- Demand 1 for any call: what follows once it is known when the call refuses. One proof for all calls. Main definitions: Settled, Lawful.
 use Rattle.std.specs.Prelude.{◌≢◌, ◌⊎◌, ◌≡◌, ℕ}
 use Rattle.rules.specs.declared.Kind.{Kind}
 use Rattle.rules.specs.Answer.{number_of, Making, made, refuses}

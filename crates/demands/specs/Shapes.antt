@@ -1,5 +1,5 @@
 -- The buffers that are lent to a call, as lists: none, one or two. What is said of each buffer of each call is said over these. Main definitions:
--- Shape, no_buffer, one_buffer, two_buffers, entry_buffer.
+-- Shape, no_buffer, one_buffer, two_buffers.
 use Rattle.std.specs.Prelude.{List, [], ◌∷◌, ℕ, ◌≤◌, length}
 use Rattle.std.proofs.Common.{arith}
 use Rattle.rules.specs.declared.Clade.{Clade}
