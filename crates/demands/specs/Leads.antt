@@ -1,5 +1,5 @@
 -- Inputs of any notation: when one is accepted, and to which vector it leads; what the public calls then answer and write. Main definitions: Input,
--- Leads, Stands.
+-- Leads.
 use Rattle.std.specs.Prelude.{List, ◌≡◌, ℕ}
 use Rattle.rules.specs.Answer.{made}
 use Rattle.rules.specs.CallCheck.{check}
