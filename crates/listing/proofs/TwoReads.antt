@@ -10,7 +10,8 @@ use lib.Seq.{length-take-le, length_front, take_at}
 use Rattle.io.specs.Counts.{IsPrefixLen}
 use Rattle.io.proofs.Counting.{prefix_len_of_le}
 use Rattle.basics.proofs.Cases.{by_eq}
-use Rattle.holding.specs.Wanted.{bytes_wanted, wanted_begun, wanted_front, wanted_within}
+use Rattle.holding.specs.Wanted.{bytes_wanted}
+use Rattle.holding.proofs.Wanted.{wanted_begun, wanted_front, wanted_within}
 
 pub first_two : (xs : List ℕ) → 1280 ≤ length xs → 2 ≡ length (take 2 xs)
 first_two xs h = sym (length-take-le 2 xs (omega arith))

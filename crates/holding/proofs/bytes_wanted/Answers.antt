@@ -1,6 +1,6 @@
 -- `bytes_wanted` meets its contract: each of its ends is a case of the definition.
 use Rattle.std.proofs.Common.{sym, ◌∙◌, arith}
-use Rattle.holding.specs.Wanted.{wanted_begun, wanted_no_leaf, wanted_many_leaves, wanted_record}
+use Rattle.holding.proofs.Wanted.{wanted_begun, wanted_no_leaf, wanted_many_leaves, wanted_record}
 use Rattle.holding.proofs.bytes_wanted.Goals as goal
 
 pub returns-then-s-lt2 : goal.returns-then-s-lt2

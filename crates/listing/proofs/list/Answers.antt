@@ -1,5 +1,5 @@
 -- `list` meets its contract: each turn has the buffers it needs, and what unpack is done with is a vector whose line fits.
-use Rattle.holding.specs.AnswerLine.{vector_first}
+use Rattle.holding.proofs.AnswerLine.{vector_first}
 use Rattle.io.proofs.Counting.{length-take_of_le}
 use Rattle.listing_line.specs.Longest.{line_fits}
 use Rattle.listing.proofs.list.Goals as goal

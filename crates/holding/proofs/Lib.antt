@@ -1,0 +1,3 @@
+pub mod AnswerLine
+pub mod RecordBytes
+pub mod Wanted
