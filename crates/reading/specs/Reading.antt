@@ -1,5 +1,5 @@
 -- The rows of a table, read one by one.
--- Main definitions: Reads, Row-at, AllRead. Main results: reads_start, reads_named, adds_some, reads_next, reads_fault, reads_end.
+-- Main definitions: Reads, RowAt, AllRead. Main results: reads_start, reads_named, adds_some, reads_next, reads_fault, reads_end.
 use Rattle.std.specs.Prelude.{◌≡◌, ◌≢◌, Bool, ◌||◌, ltb, length, get_or, set, take, drop}
 use Rattle.std.proofs.Math.Path.{refl, sym, subst}
 use Rattle.std.proofs.Common.{ap, ap₂, ◌∙◌, ⊎_elim, add-one, arith, length-take, length-set, take-append-drop, get_or-set_same, take_all}
@@ -54,7 +54,7 @@ rows_read : (n : ℕ) (xs : List ℕ) (t : ℕ) → length xs ≡ 3 * (n - 1) �
 rows_read n xs t e h = omega (arith, length-take t (rows_of xs), rows_of_length (n - 1) xs e)
 
 -- What is known of row t: its three numbers, as they stand in the table.
-pub record Row-at (n : ℕ) (xs : List ℕ) (t l r p : ℕ) : Type 0 where
+pub record RowAt (n : ℕ) (xs : List ℕ) (t l r p : ℕ) : Type 0 where
   pub inside : t < n - 1
   pub first : get_or xs (3 * t) 0 ≡ l
   pub second : get_or xs (3 * t + 1) 0 ≡ r
@@ -66,12 +66,12 @@ zero_more j = omega arith
 other_name : (x y : ℕ) → x + y - max x y ≡ min x y
 other_name x y = omega arith
 
-row_of : (n : ℕ) (xs : List ℕ) (t l r p : ℕ) → Row-at n xs t l r p → row_at xs t ≡ (l, r, p)
+row_of : (n : ℕ) (xs : List ℕ) (t l r p : ℕ) → RowAt n xs t l r p → row_at xs t ≡ (l, r, p)
 unfolding row_at
 row_of n xs t l r p A = λ i. (A.first i, A.second i, A.parent i)
 
 -- Row t, whose parent and children are in place.
-module _ {n : ℕ} {xs : List ℕ} {t l r p : ℕ} {names lows small next last : List ℕ} (R : Reads n xs t names lows small next last) (A : Row-at n xs t l r p)
+module _ {n : ℕ} {xs : List ℕ} {t l r p : ℕ} {names lows small next last : List ℕ} (R : Reads n xs t names lows small next last) (A : RowAt n xs t l r p)
     (v : ltb 0 (placed (n + t) (l, r, p)) ≡ false) where
   abbrev before : List Row
   before = take t (rows_of xs)
@@ -225,7 +225,7 @@ module _ {n : ℕ} {xs : List ℕ} {t l r p : ℕ} {names lows small next last :
 
 -- the first row that is refused is the fault of the table
 pub reads_fault : {n : ℕ} {xs : List ℕ} {t l r p : ℕ} {names lows small next last : List ℕ} → Reads n xs t names lows small next last
-    → Row-at n xs t l r p → verdict (taken (take t (rows_of xs))) (n + t) (l, r, p) ≢ 0
+    → RowAt n xs t l r p → verdict (taken (take t (rows_of xs))) (n + t) (l, r, p) ≢ 0
     → table_fault n (rows_of xs) ≡ some (verdict (taken (take t (rows_of xs))) (n + t) (l, r, p), t)
 unfolding table_fault
 reads_fault {n} {xs} {t} {l} {r} {p} R A d =

@@ -11,7 +11,7 @@ use Rattle.row_checks.specs.declared.Found.TheVariants.{Accepted, Parent, Child,
 use Rattle.row_checks.specs.Mark.{mark}
 use Rattle.row_checks.specs.Verdict.{verdict, placed, placed_verdict, misplaced_not, misplaced_verdict}
 use Rattle.row_checks.specs.Misplaced.{misplacement}
-use Rattle.reading.specs.Reading.{Reads, Row-at, reads_named, reads_fault, AllRead}
+use Rattle.reading.specs.Reading.{Reads, RowAt, reads_named, reads_fault, AllRead}
 
 -- what is found, by the table; all is what holds where its rows are accepted
 abbrev pub Finds : ℕ → List ℕ → Type 0 → Found → Type 0
@@ -26,7 +26,7 @@ HasRead n xs names lows small next last f = Finds n xs (AllRead n xs names lows 
 
 -- the row that is refused is the table's fault
 pub read_placed : (all : Type 0) {n : ℕ} {xs : List ℕ} {t l r p : ℕ} {f : Found} {names lows small next last : List ℕ} → Reads n xs t names lows small next last
-    → Row-at n xs t l r p → ltb 0 (placed (n + t) (l, r, p)) ≡ true → f ≡ misplacement (n + t) p t → Finds n xs all f
+    → RowAt n xs t l r p → ltb 0 (placed (n + t) (l, r, p)) ≡ true → f ≡ misplacement (n + t) p t → Finds n xs all f
 unfolding misplacement
 read_placed all {n} {xs} {t} {l} {r} {p} {f} R A h e = rw e (go (eqb p (n + t)) (misplaced_verdict (n + t) (l, r, p) d))
   where
@@ -44,7 +44,7 @@ read_placed all {n} {xs} {t} {l} {r} {p} {f} R A h e = rw e (go (eqb p (n + t)) 
     go false q = at 5 q
 
 pub read_named : {n : ℕ} {xs : List ℕ} {t l r p x y : ℕ} {names lows small next last names₁ names₂ : List ℕ} → Reads n xs t names lows small next last
-    → Row-at n xs t l r p → ltb 0 (placed (n + t) (l, r, p)) ≡ false → x ≡ cell names l → names₁ ≡ set names l mark → y ≡ cell names₁ r → names₂ ≡ set names₁ r mark → mark ≤ x + y
+    → RowAt n xs t l r p → ltb 0 (placed (n + t) (l, r, p)) ≡ false → x ≡ cell names l → names₁ ≡ set names l mark → y ≡ cell names₁ r → names₂ ≡ set names₁ r mark → mark ≤ x + y
     → table_fault n (rows_of xs) ≡ some (7, t)
 read_named {t = t} R A v ex e₁ ey e₂ h =
     let e = reads_named R A v ex e₁ ey e₂ h in

@@ -63,7 +63,7 @@ module _ (signs s : List ℕ) (same : Same signs s) {at c : ℕ} (asked : (at + 
 
   module _ {d : ℕ} (there : d ≡ get_or signs (at + 1) 0) where
     pub label_of_one : {r : ℕ} {m m' : List ℕ} → is_digit d ≡ false → (r ≡ at + 1) × (m' ≡ leaf_in (c - 48) m) → Labelled s at m m' r
-    label_of_one None-more p = labelled_stop signs s same d one_digit (omega arith) (omega (arith, asked.3)) there None-more p
+    label_of_one none_more p = labelled_stop signs s same d one_digit (omega arith) (omega (arith, asked.3)) there none_more p
 
     module _ (second : is_digit d ≡ true) where
       two_digits : Digits s at 2 2 (10 * c + d - 528)
@@ -71,7 +71,7 @@ module _ (signs s : List ℕ) (same : Same signs s) {at c : ℕ} (asked : (at + 
 
       module _ {e : ℕ} (there' : e ≡ get_or signs (at + 2) 0) where
         pub label_of_two : {r : ℕ} {m m' : List ℕ} → is_digit e ≡ false → (r ≡ at + 2) × (m' ≡ leaf_in (10 * c + d - 528) m) → Labelled s at m m' r
-        label_of_two None-more p = labelled_stop signs s same e two_digits (omega arith) (omega (arith, asked.3, digit_range d second)) there' None-more p
+        label_of_two none_more p = labelled_stop signs s same e two_digits (omega arith) (omega (arith, asked.3, digit_range d second)) there' none_more p
 
         module _ (third : is_digit e ≡ true) where
           three_digits : Digits s at 3 1 (10 * (10 * c + d) + e - 5328)
@@ -80,8 +80,8 @@ module _ (signs s : List ℕ) (same : Same signs s) {at c : ℕ} (asked : (at + 
 
           module _ {f : ℕ} (there'' : f ≡ get_or signs (at + 3) 0) where
             pub label_of_three : {r : ℕ} {m m' : List ℕ} → is_digit f ≡ false → (r ≡ at + 3) × (m' ≡ leaf_in (10 * (10 * c + d) + e - 5328) m) → Labelled s at m m' r
-            label_of_three None-more p =
-                labelled_stop signs s same f three_digits (omega arith) (omega (arith, asked.3, digit_range d second, digit_range e third)) there'' None-more p
+            label_of_three none_more p =
+                labelled_stop signs s same f three_digits (omega arith) (omega (arith, asked.3, digit_range d second, digit_range e third)) there'' none_more p
 
             module _ (fourth : is_digit f ≡ true) where
               pub label_of_four : {r : ℕ} {m m' : List ℕ} → (r ≡ at + 4) × (m' ≡ leaf_in (10 * (10 * (10 * c + d) + e) + f - 53328) m) → Labelled s at m m' r

@@ -70,4 +70,4 @@ module _ (s : List ℕ) (n : ℕ) (H : Headed s n) where
   pub entries_right : (xs : List ℕ) → Contains s 11 n xs contents.Entries → (n ≤ length xs) × (unpack s ≡ made (take n xs))
   unfolding from_entries
   entries_right xs h =
-      let Made-so = entries_made s 11 n (length s - 1) (bits_of s) entries behind xs h in (Made-so.0, headed s n H ∙ Made-so.1)
+      let made_so = entries_made s 11 n (length s - 1) (bits_of s) entries behind xs h in (made_so.0, headed s n H ∙ made_so.1)

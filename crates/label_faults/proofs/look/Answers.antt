@@ -13,31 +13,18 @@ next_number-x-requires c = (sym c.digit.ensures ∙ c.if-digit.true, λ e. let L
 
 pub returns-then-n-x : goal.returns-then-n-x
 unfolding fault_is
-returns-then-n-x c = let at-if1 = c in
-    let at_digit = c in
-    let at-loop-test = c in
-    let at-loop = c in
-    look_large at-loop.loop-at.invariant at-loop-test.loop-at-test.true (sym at_digit.digit.ensures ∙ at-if1.if-digit.true) c.next_start-start.ensures c.next_number-x.ensures c.if-n-x.true
+returns-then-n-x c = look_large c.loop-at.invariant c.loop-at-test.true (sym c.digit.ensures ∙ c.if-digit.true) c.next_start-start.ensures c.next_number-x.ensures c.if-n-x.true
 
 pub bounds-used-x : goal.bounds-used-x
-bounds-used-x c = let turn = c in
-    let L = turn.loop-at.invariant in
-    omega (arith, number_small L turn.loop-at-test.true (sym c.digit.ensures ∙ c.if-digit.false) c.if-inside.true, L.marks.size)
+bounds-used-x c = let L = c.loop-at.invariant in
+    omega (arith, number_small L c.loop-at-test.true (sym c.digit.ensures ∙ c.if-digit.false) c.if-inside.true, L.marks.size)
 
 pub returns-then-used-x-ne0 : goal.returns-then-used-x-ne0
 unfolding fault_is
-returns-then-used-x-ne0 c = let at-if1 = c in
-    let at_digit = c in
-    let at-loop-test = c in
-    let at-loop = c in
-    look_used at-loop.loop-at.invariant at-loop-test.loop-at-test.true (sym at_digit.digit.ensures ∙ at-if1.if-digit.false) c.if-inside.true c.if-used-x-ne0.true
+returns-then-used-x-ne0 c = look_used c.loop-at.invariant c.loop-at-test.true (sym c.digit.ensures ∙ c.if-digit.false) c.if-inside.true c.if-used-x-ne0.true
 
 pub bounds-used-x-then-inside : goal.bounds-used-x-then-inside
-bounds-used-x-then-inside c = let at-if1 = c in
-    let at_digit = c in
-    let at-loop-test = c in
-    let at-loop = c in
-    let L = at-loop.loop-at.invariant in omega (arith, number_small L at-loop-test.loop-at-test.true (sym at_digit.digit.ensures ∙ at-if1.if-digit.false) c.if-inside.true, L.marks.size)
+bounds-used-x-then-inside c = let L = c.loop-at.invariant in omega (arith, number_small L c.loop-at-test.true (sym c.digit.ensures ∙ c.if-digit.false) c.if-inside.true, L.marks.size)
 
 pub loop-at-preserved : goal.loop-at-preserved
 loop-at-preserved c =

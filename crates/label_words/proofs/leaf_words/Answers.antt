@@ -8,19 +8,12 @@ pub longer_labels-a-requires : goal.longer_labels-a-requires
 longer_labels-a-requires c = (omega arith, omega (arith, c.lesser.ensures), omega arith, omega arith, first_ten c.requires.1 c.ten_words.ensures, word_two _ (omega (arith, c.lesser.ensures)))
 
 pub longer_labels-b-requires : goal.longer_labels-b-requires
-longer_labels-b-requires c = let at-longer-labels = c in
-    let at-lesser = c in
-    let start = c in
-    let L = at-longer-labels.longer_labels-a.ensures in
-    (omega (arith, L.1), omega (arith, c.lesser-2.ensures, start.requires.0), omega arith, omega arith, L.0, word_three _ _ (λ h. reaches _ 10 _ _ at-lesser.lesser.ensures L.2 (omega (arith, c.lesser-2.ensures))) (omega (arith, c.lesser-2.ensures)))
+longer_labels-b-requires c = let L = c.longer_labels-a.ensures in
+    (omega (arith, L.1), omega (arith, c.lesser-2.ensures, c.requires.0), omega arith, omega arith, L.0, word_three _ _ (λ h. reaches _ 10 _ _ c.lesser.ensures L.2 (omega (arith, c.lesser-2.ensures))) (omega (arith, c.lesser-2.ensures)))
 
 pub longer_labels-requires : goal.longer_labels-requires
-longer_labels-requires c = let at-longer-labels2 = c in
-    let at-lesser2 = c in
-    let at-longer-labels = c in
-    let start = c in
-    let L = at-longer-labels2.longer_labels-b.ensures in
-    (omega (arith, L.1, at-longer-labels.longer_labels-a.ensures.1), omega (arith, start.requires.0), omega arith, omega arith, L.0, word_four _ _ (λ h. reaches _ 100 _ _ at-lesser2.lesser-2.ensures L.2 h) (omega (arith, start.requires.0)))
+longer_labels-requires c = let L = c.longer_labels-b.ensures in
+    (omega (arith, L.1, c.longer_labels-a.ensures.1), omega (arith, c.requires.0), omega arith, omega arith, L.0, word_four _ _ (λ h. reaches _ 100 _ _ c.lesser-2.ensures L.2 h) (omega (arith, c.requires.0)))
 
 pub bounds-words-2047 : goal.bounds-words-2047
 bounds-words-2047 c = omega (arith, c.longer_labels.ensures.0.long)

@@ -18,20 +18,16 @@ pub bounds-out-x : goal.bounds-out-x
 bounds-out-x c = omega (arith, listed_room (c.loop-i.invariant _ (listed_start c.requires.0 c.requires.1 c.wide.ensures c.write_label-x.ensures)) c.loop-i-test.true)
 
 pub overflow_add-x : goal.overflow_add-x
-overflow_add-x c = let turn = c in
-    let L = c.loop-i.invariant _ (listed_start c.requires.0 c.requires.1 c.wide.ensures c.write_label-x.ensures) in
-    omega (arith, listed_room L turn.loop-i-test.true, listed_same L)
+overflow_add-x c = let L = c.loop-i.invariant _ (listed_start c.requires.0 c.requires.1 c.wide.ensures c.write_label-x.ensures) in
+    omega (arith, listed_room L c.loop-i-test.true, listed_same L)
 
 pub write_label-x-requires-in-loop-i : goal.write_label-x-requires-in-loop-i
-write_label-x-requires-in-loop-i c = let turn = c in
-    let L = c.loop-i.invariant _ (listed_start c.requires.0 c.requires.1 c.wide.ensures c.write_label-x.ensures) in
-    (rw c.wide-in-loop-i.ensures (entry_small _ _ L.accepted turn.loop-i-test.true), simp length-set (omega (arith, listed_room L turn.loop-i-test.true, digits_at_most 4 c.wide-in-loop-i.result)))
+write_label-x-requires-in-loop-i c = let L = c.loop-i.invariant _ (listed_start c.requires.0 c.requires.1 c.wide.ensures c.write_label-x.ensures) in
+    (rw c.wide-in-loop-i.ensures (entry_small _ _ L.accepted c.loop-i-test.true), simp length-set (omega (arith, listed_room L c.loop-i-test.true, digits_at_most 4 c.wide-in-loop-i.result)))
 
 pub loop-i-preserved : goal.loop-i-preserved
 loop-i-preserved c = λ before L.
-    let label = c in
-    let turn = label in
-    listed_next (turn.loop-i.invariant before L) turn.loop-i-test.true label.wide-in-loop-i.ensures label.write_label-x-in-loop-i.ensures
+    listed_next (c.loop-i.invariant before L) c.loop-i-test.true c.wide-in-loop-i.ensures c.write_label-x-in-loop-i.ensures
 
 pub shape_of-out : goal.shape_of-out
 shape_of-out c = listed_same (c.loop-i.invariant _ (listed_start c.requires.0 c.requires.1 c.wide.ensures c.write_label-x.ensures))

@@ -10,27 +10,19 @@ pub write_front-at-requires : goal.write_front-at-requires
 write_front-at-requires c = let p = c.requires in (p.0, omega arith)
 
 pub write_text-end-requires : goal.write_text-end-requires
-write_text-end-requires c = let front = c in
-    let p = front.requires in
-    (p.0, omega (arith, text_room _ p.0.valid p.0.few p.1 front.write_front-at.ensures))
+write_text-end-requires c = let p = c.requires in
+    (p.0, omega (arith, text_room _ p.0.valid p.0.few p.1 c.write_front-at.ensures))
 
 pub bounds-out-end : goal.bounds-out-end
-bounds-out-end c = let text = c in
-    let front = text in
-    let p = front.requires in
-    end_room _ p.0.valid p.0.few p.1 front.write_front-at.ensures text.write_text-end.ensures
+bounds-out-end c = let p = c.requires in
+    end_room _ p.0.valid p.0.few p.1 c.write_front-at.ensures c.write_text-end.ensures
 
 pub overflow_add-result : goal.overflow_add-result
-overflow_add-result c = let text = c in
-    let front = text in
-    let p = front.requires in
-    omega (arith, end_room _ p.0.valid p.0.few p.1 front.write_front-at.ensures text.write_text-end.ensures)
+overflow_add-result c = let p = c.requires in
+    omega (arith, end_room _ p.0.valid p.0.few p.1 c.write_front-at.ensures c.write_text-end.ensures)
 
 pub shape_of-out : goal.shape_of-out
-shape_of-out c = let text = c in
-    let front = text in
-    simp length-set (wrote_same text.write_text-end.ensures ∙ wrote_same front.write_front-at.ensures)
+shape_of-out c = simp length-set (wrote_same c.write_text-end.ensures ∙ wrote_same c.write_front-at.ensures)
 
 pub returns : goal.returns
-returns c = let text = c in
-    line_written _ text.write_front-at.ensures text.write_text-end.ensures
+returns c = line_written _ c.write_front-at.ensures c.write_text-end.ensures

@@ -1,57 +1,38 @@
 -- `read_rows` meets its contract: the first t rows are read, and none of them is refused.
-use mathlib.Core.Path.{refl, sym, ◌∙◌}
+use Rattle.std.proofs.Common.{◌≡◌, ℕ, ◌+◌, ◌-◌, ◌*◌, ◌<◌, List, get_or, refl, sym, ◌∙◌}
 use Rattle.chains.specs.Lengths.{same_lengths}
-use Rattle.reading.specs.Reading.{Row-at, reads_inside, reads_few, adds_some, reads_next, reads_end}
+use Rattle.reading.specs.Reading.{RowAt, reads_inside, reads_few, adds_some, reads_next, reads_end}
 use Rattle.reading.specs.Told.{read_placed, read_named}
 use native.Mathlib.Omega.{arith}
 use Rattle.reading.proofs.read_rows.Goals as goal
+
+-- what the three reads of a turn tell of row t
+row_here : {n t l r p : ℕ} {xs : List ℕ} (count : ℕ) → t < count → count ≡ n - 1 → l ≡ get_or xs (3 * t) 0 → r ≡ get_or xs (3 * t + 1) 0
+    → p ≡ get_or xs (3 * t + 2) 0 → RowAt n xs t l r p
+row_here count low all first second parent = record { inside = omega (arith, low, all); first = sym first; second = sym second; parent = sym parent }
 
 pub loop-t-init : goal.loop-t-init
 loop-t-init c = (c.requires, same_lengths, refl)
 
 pub returns-then-misplaced : goal.returns-then-misplaced
 returns-then-misplaced c =
-    let row : Row-at c.args.n c.args.rows.now c.loop-t.t c.wide-l.result c.wide-r.result c.wide-parent.result =
-    record {
-      inside = omega (arith, c.loop-t-test.true, c.loop-t.invariant.2);
-      first = sym c.wide-l.ensures;
-      second = sym c.wide-r.ensures;
-      parent = sym c.wide-parent.ensures;
-    } in
+    let row = row_here _ c.loop-t-test.true c.loop-t.invariant.2 c.wide-l.ensures c.wide-r.ensures c.wide-parent.ensures in
     read_placed _ c.loop-t.invariant.0 row (sym c.misplaced.ensures ∙ c.if-misplaced.true) c.misplacement.ensures
 
 pub take_name-x-requires : goal.take_name-x-requires
 take_name-x-requires c =
-    let row : Row-at c.args.n c.args.rows.now c.loop-t.t c.wide-l.result c.wide-r.result c.wide-parent.result =
-    record {
-      inside = omega (arith, c.loop-t-test.true, c.loop-t.invariant.2);
-      first = sym c.wide-l.ensures;
-      second = sym c.wide-r.ensures;
-      parent = sym c.wide-parent.ensures;
-    } in
+    let row = row_here _ c.loop-t-test.true c.loop-t.invariant.2 c.wide-l.ensures c.wide-r.ensures c.wide-parent.ensures in
     (reads_inside c.loop-t.invariant.0 row (sym c.misplaced.ensures ∙ c.if-misplaced.false)).0
 
 pub take_name-y-requires : goal.take_name-y-requires
 take_name-y-requires c =
-    let row : Row-at c.args.n c.args.rows.now c.loop-t.t c.wide-l.result c.wide-r.result c.wide-parent.result =
-    record {
-      inside = omega (arith, c.loop-t-test.true, c.loop-t.invariant.2);
-      first = sym c.wide-l.ensures;
-      second = sym c.wide-r.ensures;
-      parent = sym c.wide-parent.ensures;
-    } in
+    let row = row_here _ c.loop-t-test.true c.loop-t.invariant.2 c.wide-l.ensures c.wide-r.ensures c.wide-parent.ensures in
     let inside = reads_inside c.loop-t.invariant.0 row (sym c.misplaced.ensures ∙ c.if-misplaced.false) in
     omega (arith, c.take_name-x.auto)
 
 pub overflow_add-s : goal.overflow_add-s
 overflow_add-s c =
-    let row : Row-at c.args.n c.args.rows.now c.loop-t.t c.wide-l.result c.wide-r.result c.wide-parent.result =
-    record {
-      inside = omega (arith, c.loop-t-test.true, c.loop-t.invariant.2);
-      first = sym c.wide-l.ensures;
-      second = sym c.wide-r.ensures;
-      parent = sym c.wide-parent.ensures;
-    } in
+    let row = row_here _ c.loop-t-test.true c.loop-t.invariant.2 c.wide-l.ensures c.wide-r.ensures c.wide-parent.ensures in
     let placed = sym c.misplaced.ensures ∙ c.if-misplaced.false in
     let x = c.take_name-x in
     let y = c.take_name-y in
@@ -60,13 +41,7 @@ overflow_add-s c =
 
 pub returns-then-s : goal.returns-then-s
 returns-then-s c =
-    let row : Row-at c.args.n c.args.rows.now c.loop-t.t c.wide-l.result c.wide-r.result c.wide-parent.result =
-    record {
-      inside = omega (arith, c.loop-t-test.true, c.loop-t.invariant.2);
-      first = sym c.wide-l.ensures;
-      second = sym c.wide-r.ensures;
-      parent = sym c.wide-parent.ensures;
-    } in
+    let row = row_here _ c.loop-t-test.true c.loop-t.invariant.2 c.wide-l.ensures c.wide-r.ensures c.wide-parent.ensures in
     let placed = sym c.misplaced.ensures ∙ c.if-misplaced.false in
     let x = c.take_name-x in
     let y = c.take_name-y in
@@ -77,13 +52,7 @@ overflow_sub-s c = omega (arith, c.greater-i.ensures)
 
 pub add_pair-requires : goal.add_pair-requires
 add_pair-requires c =
-    let row : Row-at c.args.n c.args.rows.now c.loop-t.t c.wide-l.result c.wide-r.result c.wide-parent.result =
-    record {
-      inside = omega (arith, c.loop-t-test.true, c.loop-t.invariant.2);
-      first = sym c.wide-l.ensures;
-      second = sym c.wide-r.ensures;
-      parent = sym c.wide-parent.ensures;
-    } in
+    let row = row_here _ c.loop-t-test.true c.loop-t.invariant.2 c.wide-l.ensures c.wide-r.ensures c.wide-parent.ensures in
     let placed = sym c.misplaced.ensures ∙ c.if-misplaced.false in
     let x = c.take_name-x in
     let y = c.take_name-y in
@@ -95,13 +64,7 @@ overflow_add-t-in-loop-t-2 c = let P = c.requires in
 
 pub loop-t-preserved : goal.loop-t-preserved
 loop-t-preserved c =
-    let row : Row-at c.args.n c.args.rows.now c.loop-t.t c.wide-l.result c.wide-r.result c.wide-parent.result =
-    record {
-      inside = omega (arith, c.loop-t-test.true, c.loop-t.invariant.2);
-      first = sym c.wide-l.ensures;
-      second = sym c.wide-r.ensures;
-      parent = sym c.wide-parent.ensures;
-    } in
+    let row = row_here _ c.loop-t-test.true c.loop-t.invariant.2 c.wide-l.ensures c.wide-r.ensures c.wide-parent.ensures in
     let placed = sym c.misplaced.ensures ∙ c.if-misplaced.false in
     let x = c.take_name-x in
     let y = c.take_name-y in

@@ -5,9 +5,8 @@ use native.Mathlib.Omega.{arith}
 use Rattle.text_reader.proofs.read_text.Goals as goal
 
 pub node-x-requires : goal.node-x-requires
-node-x-requires c = let start = c in
-    let F = start.requires.0.1 in
-    (start.requires.0.0, begin_start start.args.m.now F.same F.short start.requires.1)
+node-x-requires c = let F = c.requires.0.1 in
+    (c.requires.0.0, begin_start c.args.m.now F.same F.short c.requires.1)
 
 pub sign-requires : goal.sign-requires
 sign-requires c =

@@ -4,8 +4,7 @@ use native.Mathlib.Omega.{arith}
 use Rattle.text_signs.proofs.keep.Goals as goal
 
 pub returns-then-least_byte-gt32 : goal.returns-then-least_byte-gt32
-returns-then-least_byte-gt32 c = let start = c in
-    let s = start.args.s.now in
+returns-then-least_byte-gt32 c = let s = c.args.s.now in
     let least = c.least_byte.ensures in
     let plain = plain_signs s (λ k l. omega (arith, least k l, c.if-least_byte-gt32.true)) in
-    rw c.copy_bytes.ensures (plain_keeps s start.args.signs.now plain c.if-s-le-MOST.true start.requires.1)
+    rw c.copy_bytes.ensures (plain_keeps s c.args.signs.now plain c.if-s-le-MOST.true c.requires.1)
