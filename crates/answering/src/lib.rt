@@ -25,6 +25,6 @@ pub fn hand_out(numbers: &[u16], n: usize, out: &mut [u16]) -> Answer
     if out.len() < n {
         return refuse(Kind::Room, n);
     }
-    lists::copy_numbers(numbers, n, out);
+    lists::copy(numbers, n, out);
     Answer::Done(n)
 }

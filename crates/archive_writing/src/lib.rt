@@ -23,7 +23,7 @@ fn write_header(n: usize, count: usize, out: &mut [u8])
     let none = bit_writer::nothing();
     let leaves = bit_writer::put_bits(&mut built, none, lengths::COUNT_BITS, n as u64);
     bit_writer::put_bits(&mut built, leaves, TREE_COUNT_BITS, count as u64);
-    lists::copy_bytes(&built, HEADER_BYTES, out);
+    lists::copy(&built, HEADER_BYTES, out);
 }
 
 /// Writes the archive of valid vectors of n entries, one after another in a list, to the front of `out`. Each record has so many bytes.

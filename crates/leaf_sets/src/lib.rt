@@ -22,18 +22,6 @@ pub fn leaf_bits(bits: &mut [u64])
     }
 }
 
-// The first n words of src become those of out; the others stay.
-fn copy_words(src: &[u64], n: usize, out: &mut [u64])
-    requires { (n ≤ length src.now) × (n ≤ length out.old) }
-    ensures { out.new ≡ take n src.now ++ drop n out.old }
-{
-    let mut k: usize = 0;
-    while k < n {
-        out[k] = src[k];
-        k += 1;
-    }
-}
-
 // The leaf set of each merge that list and small hold: that of its two clusters, which are one from then on.
 fn merged_sets(
     list: &[u16],
@@ -72,7 +60,7 @@ pub fn sets_of(
     ensures { take (length v.now - 1) sets.new ≡ vector_sets v.now }
 {
     let n = v.len();
-    copy_words(bits, n, clusters);
+    lists::copy(bits, n, clusters);
     let start = merges::merges(v, list, small);
     merged_sets(list, small, start, n, clusters, sets);
 }

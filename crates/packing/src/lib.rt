@@ -36,7 +36,7 @@ fn pack_behind(v: &[u16], width: u32, x: u64, out: &mut [u8])
     let none = bit_writer::nothing();
     let front = bit_writer::put_field(&mut built, none, width, x);
     let p = put_entries(v, &mut built, front);
-    lists::copy_bytes(&built, (p.bits + 7) / 8, out);
+    lists::copy(&built, (p.bits + 7) / 8, out);
 }
 
 /// Writes the record of a valid vector to the front of `out`.

@@ -60,5 +60,5 @@ pub fn renamed_vector(v: &[u16], p: &[u16], vector: &mut [u16])
     vector_rows::rows_of(v, &mut left, &mut right);
     let mut entries = [0u16; 1024];
     rename_rows(v, p, &mut left, &mut right, &mut entries);
-    lists::copy_numbers(&entries, v.len(), vector);
+    lists::copy(&entries, v.len(), vector);
 }

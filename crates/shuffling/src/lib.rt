@@ -23,6 +23,6 @@ pub fn shuffled(v: &[u16], new: &mut [u16], vector: &mut [u16])
     queue::queue(n, &left, &right, &mut nodes, &mut labels, &mut new_labels);
     let mut entries = [0u16; 1024];
     renaming::rename_rows(v, &new_labels[..n], &mut left, &mut right, &mut entries);
-    lists::copy_numbers(&new_labels, n, new);
-    lists::copy_numbers(&entries, n, vector);
+    lists::copy(&new_labels, n, new);
+    lists::copy(&entries, n, vector);
 }

@@ -8,7 +8,7 @@ ghost use Rattle.blanks.specs.Places.{place_of};
 ghost use Rattle.text_laws.specs.Cells.{AllZero};
 ghost use Rattle.text_signs.specs.Keeping.{KeptIn, kept_of};
 
-use lists::copy_bytes;
+use lists::copy;
 use text_cells::SIGNS;
 use text_labels::digit;
 
@@ -135,7 +135,7 @@ pub fn keep(s: &[u8], signs: &mut [u8; SIGNS]) -> Kept
 {
     if s.len() <= MOST {
         if b' ' < least_byte(s) {
-            copy_bytes(s, s.len(), signs);
+            copy(s, s.len(), signs);
             return Kept::Signs(s.len());
         }
     }

@@ -40,5 +40,5 @@ pub fn write_tree(v: &[u16], out: &mut [u8])
     let mut text = [0u8; SIGNS];
     node_words::tree_words(v, &mut words);
     let count = text_writer::write_text(&words, v.len(), &mut text);
-    lists::copy_bytes(&text, count, out);
+    lists::copy(&text, count, out);
 }

@@ -10,4 +10,4 @@ unfolding answers.reads answers.number_of
 returns-then-out-n c = short_room _ _ refl (length-take-le _ _ c.requires) c.if-out-n.true c.refuse.ensures
 
 pub returns : goal.returns
-returns c = full_list _ _ refl (length-take-le _ _ c.requires) c.if-out-n.false c.copy_numbers.ensures
+returns c = full_list _ _ refl (length-take-le _ _ c.requires) c.if-out-n.false c.copy.ensures

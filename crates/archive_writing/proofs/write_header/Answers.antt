@@ -4,4 +4,4 @@ use Rattle.archive_writing.proofs.Header.{header_put}
 use Rattle.archive_writing.proofs.write_header.Goals as goal
 
 pub returns : goal.returns
-returns c = c.copy_bytes.ensures ∙ rw (header_put _ _ c.nothing-none.ensures c.put_bits-leaves.ensures c.put_bits.ensures)
+returns c = c.copy.ensures ∙ rw (header_put _ _ c.nothing-none.ensures c.put_bits-leaves.ensures c.put_bits.ensures)

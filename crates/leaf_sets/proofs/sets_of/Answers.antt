@@ -10,8 +10,8 @@ merged_sets-requires c = let a = c.args in
     let h = c.requires in
     let m = c.merges-start.ensures in (
       before_sets h.vector.0.valid h.vector.1 m.0 m.1 (c.merges-start.auto.list ∙ h.list_len.0) (c.merges-start.auto.small
-          ∙ h.list_len.1) (c.copy_words.auto.out ∙ h.list_len.2)
-          (rw c.copy_words.ensures (bits_copied _ a.clusters.now (omega (arith, h.vector.1, h.vector.2)) h.vector.1 h.vector.3)),
+          ∙ h.list_len.1) (c.copy.auto.out ∙ h.list_len.2)
+          (rw c.copy.ensures (bits_copied _ a.clusters.now (omega (arith, h.vector.1, h.vector.2)) h.vector.1 h.vector.3)),
       omega (arith, h.vector.1, h.list_len.3),
     )
 

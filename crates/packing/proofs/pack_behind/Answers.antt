@@ -10,12 +10,12 @@ put_entries-p-requires c = entries_due c.requires c.nothing-none.ensures c.put_f
 pub overflow_add-p : goal.overflow_add-p
 overflow_add-p c = let b = built c.requires c.nothing-none.ensures c.put_field-front.ensures c.put_entries-p.ensures in omega (arith, b.0, b.1)
 
-pub copy_bytes-requires : goal.copy_bytes-requires
-copy_bytes-requires c =
+pub copy-requires : goal.copy-requires
+copy-requires c =
     let b = built c.requires c.nothing-none.ensures c.put_field-front.ensures c.put_entries-p.ensures in
     (omega (arith, b.0, b.1), omega (arith, b.0, c.requires.enough))
 
 pub returns : goal.returns
 returns c =
     let (bytes, _, are) = built c.requires c.nothing-none.ensures c.put_field-front.ensures c.put_entries-p.ensures in
-    c.copy_bytes.ensures ∙ rw (bytes, are)
+    c.copy.ensures ∙ rw (bytes, are)

@@ -10,4 +10,4 @@ rename_rows-requires c = let P = c.requires in
 
 pub returns : goal.returns
 returns c = let P = c.requires in
-    rw (renamed_front _ _ _ _ P.vector.0.valid P.p_len.0 P.p_len.1 c.rename_rows.ensures) at c.copy_numbers.ensures
+    rw (renamed_front _ _ _ _ P.vector.0.valid P.p_len.0 P.p_len.1 c.rename_rows.ensures) at c.copy.ensures

@@ -25,8 +25,8 @@ rename_rows-requires c =
     let P = c.requires in
     let N = labels in record { rows_of = (rows, P.0.few, omega (arith, P.0.few)); p_len = (N.count, N.no_fault) }
 
-pub copy_numbers-requires-2 : goal.copy_numbers-requires-2
-copy_numbers-requires-2 c = let P = c.requires in
+pub copy-requires-2 : goal.copy-requires-2
+copy-requires-2 c = let P = c.requires in
     let kept = c.rename_rows.auto in
     (omega (arith, P.0.few), P.2)
 
@@ -36,4 +36,4 @@ returns c =
     rows_of _ _ _ _ _ c.requires.0.valid (omega arith) (omega arith) c.requires.0.few c.rows_of.ensures.left_after c.rows_of.ensures.right_after in
     let labels : NewLabels c.args.v.now c.queue.new.new =
     new_labels _ _ rows c.queue.ensures in
-    let N = labels in record { after = labels_copied _ N c.copy_numbers.ensures; vector_after = vector_copied _ _ rows.valid N c.rename_rows.ensures c.copy_numbers-2.ensures }
+    let N = labels in record { after = labels_copied _ N c.copy.ensures; vector_after = vector_copied _ _ rows.valid N c.rename_rows.ensures c.copy-2.ensures }
