@@ -15,7 +15,7 @@ pub fn bits_before(n: usize) -> usize
     requires { (1 ≤ n) × (n ≤ 1024) }
     ensures { result ≡ total n }
 {
-    numbers::wide(totals::TOTALS[n - 1])
+    usize::from(totals::TOTALS[n - 1])
 }
 
 /// The bits of the fields of n entries: L(n) without those of the leaf count.
@@ -41,5 +41,5 @@ pub fn leaf_count(s: &[u8]) -> usize
 {
     let mut count = [0u16; 1];
     bit_reader::first_field(s, COUNT_BITS, &mut count);
-    count[0] as usize
+    usize::from(count[0])
 }

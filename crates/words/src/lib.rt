@@ -11,17 +11,11 @@ const THREE_BYTES: u64 = 16777216;
 
 const FOUR_BYTES: u64 = 4294967296;
 
-fn wide(b: u8) -> u64
-    ensures { (result ≡ b) × (result < 256) }
-{
-    b as u64
-}
-
 // The byte at q, or 0 past the end.
 fn byte_at(s: &[u8], q: usize) -> u64
     ensures { (result ≡ get_or s.now q 0) × (result < 256) }
 {
-    if q < s.len() { wide(s[q]) } else { 0 }
+    if q < s.len() { u64::from(s[q]) } else { 0 }
 }
 
 // Four bytes as one number.
@@ -37,7 +31,12 @@ fn four_inside(s: &[u8], q: usize) -> u64
     requires { q + 4 ≤ length s.now }
     ensures { (result ≡ word_at 4 s.now q) × (result < 2 ^ 32) }
 {
-    joined(wide(s[q]), wide(s[q + 1]), wide(s[q + 2]), wide(s[q + 3]))
+    joined(
+        u64::from(s[q]),
+        u64::from(s[q + 1]),
+        u64::from(s[q + 2]),
+        u64::from(s[q + 3]),
+    )
 }
 
 /// Four bytes from q on as one number, 0 past the end.

@@ -12,4 +12,4 @@ unfolding steps total
 returns c =
     let n = c.args.n in
     let e : 1 + (n - 1) ≡ n = omega arith in
-    c.wide.ensures ∙ steps_at 1024 1 (n - 1) (omega arith) ∙ ap total e
+    c.from.ensures ∙ steps_at 1024 1 (n - 1) (omega arith) ∙ ap total e

@@ -1,12 +1,10 @@
 -- `lengths::leaf_count` meets its contract: the number of the first field.
-use native.Mathlib.Omega.{arith}
-use mathlib.Core.Path.{◌≡◌, ap}
+use mathlib.Core.Path.{◌≡◌, ap, ◌∙◌}
 use mathlib.Core.List.{List, [], ◌∷◌}
 use Prim.Native.Nat.{ℕ}
 use lib.ListN.{get_or}
 use Rattle.rules.specs.Record.{leaf_count}
 use Rattle.record_laws.specs.Window.{value_at}
-use Rattle.record_laws.proofs.Window.{value_lt}
 use Rattle.bits.specs.Fields.{field_read}
 use Rattle.lengths.proofs.leaf_count.Goals as goal
 
@@ -15,9 +13,6 @@ counted : (s out : List ℕ) → out ≡ field_read s 0 11 (0 ∷ []) 0 → get_
 unfolding field_read
 counted s out e = ap (λ (l : List ℕ). get_or l 0 0) e
 
-pub overflow_cast-result : goal.overflow_cast-result
-overflow_cast-result c = let s = c.args.s.now in record { fits = omega (arith, counted s _ c.first_field.ensures, value_lt s 0 11) }
-
 pub returns : goal.returns
 unfolding leaf_count value_at
-returns c = counted c.args.s.now _ c.first_field.ensures
+returns c = c.from.ensures ∙ counted c.args.s.now _ c.first_field.ensures
