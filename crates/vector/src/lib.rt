@@ -1,8 +1,9 @@
 // The check of a vector: its first entry above its bound.
 #![tactic(auto)]
 
-ghost use Rattle.std.specs.Prelude.{◌≡◌, ℕ, ◌-◌, ◌*◌, ◌<◌, ◌≤◌, length, get_or};
-ghost use Rattle.vector.specs.Fault.{first_fault};
+ghost use Rattle.std.specs.Prelude.{◌≡◌, ℕ, ◌-◌, ◌*◌, ◌<◌, ◌≤◌, MatchOption, length, get_or};
+ghost use Rattle.std.proofs.Math.Option.{none, some};
+ghost use Rattle.rules.specs.Vector.{fault};
 
 // 1 where x is above its bound, else 0.
 fn excess(x: u16, bound: u16) -> u16
@@ -16,37 +17,25 @@ fn faults_behind_first(v: &[u16]) -> u16
     requires { (1 ≤ length v.now) × (length v.now ≤ 1024) }
     ensures { result ≡ 0 → (k : ℕ) → 1 ≤ k → k < length v.now → get_or v.now k 0 ≤ 2 * (k - 1) }
 {
-    let n = v.len();
     let mut faults: u16 = 0;
-    let mut i: usize = 1;
-    while i < n {
+    for i in 1..v.len() {
         faults += excess(v[i], (2 * (i - 1)) as u16);
-        i += 1;
     }
     faults
 }
 
-// The first entry above its bound, or the number of entries where each is within its bound.
-pub fn first_fault(v: &[u16]) -> usize
+// The number of the first entry above its bound, or None where each is within its bound.
+pub fn first_fault(v: &[u16]) -> Option<usize>
     requires { length v.now ≤ 1024 }
-    ensures { result ≡ first_fault v.now }
+    ensures { MatchOption result (fault 0 v.now ≡ none) (λ i. fault 0 v.now ≡ some i) }
 {
-    let n = v.len();
-    if n == 0 {
-        return 0;
+    if !v.is_empty() && v[0] == 0 && faults_behind_first(v) == 0 {
+        return None;
     }
-    if 0 < v[0] {
-        return 0;
-    }
-    if faults_behind_first(v) == 0 {
-        return n;
-    }
-    let mut i: usize = 1;
-    while i < n {
-        if 2 * (i - 1) < numbers::wide(v[i]) {
-            return i;
+    for (i, x) in v.iter().enumerate() {
+        if 2 * i.saturating_sub(1) < usize::from(*x) {
+            return Some(i);
         }
-        i += 1;
     }
-    n
+    None
 }

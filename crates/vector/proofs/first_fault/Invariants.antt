@@ -1,10 +1,6 @@
 -- `first_fault` meets its contract: before entry i the loop has met no entry above its bound.
-use Prim.Native.Nat.{◌-◌}
 use Rattle.vector.specs.Fault.{Passed}
 use Rattle.vector.proofs.first_fault.Given as goal
 
 abbrev pub invariant-loop-i : goal.invariant-loop-i
 invariant-loop-i l = Passed l.v l.i
-
-abbrev pub decreases-loop-i : goal.decreases-loop-i
-decreases-loop-i l = l.n - l.i
