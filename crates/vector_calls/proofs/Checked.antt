@@ -1,9 +1,9 @@
 -- What the check of a vector answers, and what a call that begins from a vector may then say.
 -- Main results: empty_refused, large_refused, fault_refused, passes; refused_alike, checked_sound.
 use mathlib.Core.List.{List}
+use mathlib.Core.Option.{none, some}
 use mathlib.Core.Path.{◌≡◌, sym, ap, ◌∙◌, subst}
 use Prim.Native.Nat.{ℕ, ◌≤◌, ◌<◌}
-use native.Mathlib.Omega.{arith}
 use lib.ListN.{length}
 use Rattle.rules.specs.Answer.{Making, made, refuses, reads}
 use Rattle.rules.specs.Promise.{Call, answers, Keeps}
@@ -16,8 +16,7 @@ use Rattle.accepting.proofs.Answers.{done_not_refused}
 use Rattle.accepting.proofs.Kept.{refused_early}
 use Rattle.accepting.specs.FromVector.{Seen, faulty, sound}
 use Rattle.accepting.proofs.FromVector.{no_entry, many_entries, above_bound, within_bounds, seen}
-use Rattle.rules.specs.Vector.{Vector}
-use Rattle.vector.specs.Fault.{first_fault, first_fault_some, first_fault_none}
+use Rattle.rules.specs.Vector.{Vector, fault}
 
 pub empty_refused : (v : List ℕ) → length v ≡ 0 → check v ≡ refuses 1 0
 unfolding check
@@ -27,17 +26,13 @@ pub large_refused : (v : List ℕ) → 1024 < length v → check v ≡ refuses 1
 unfolding check
 large_refused v l = many_entries v (made tt) l
 
-pub fault_refused : (v : List ℕ) (i : ℕ) → 1 ≤ length v → length v ≤ 1024 → i ≡ first_fault v → i < length v → check v ≡ refuses 4 i
+pub fault_refused : (v : List ℕ) (i : ℕ) → 1 ≤ length v → length v ≤ 1024 → fault 0 v ≡ some i → check v ≡ refuses 4 i
 unfolding check
-fault_refused v i l u e h =
-    let k : first_fault v < length v = omega arith in
-    above_bound v (made tt) (first_fault v) l u (first_fault_some v k) ∙ ap (refuses 4) (sym e)
+fault_refused v i l u f = above_bound v (made tt) i l u f
 
-pub passes : (v : List ℕ) (i : ℕ) → 1 ≤ length v → length v ≤ 1024 → i ≡ first_fault v → length v ≤ i → check v ≡ made tt
+pub passes : (v : List ℕ) → 1 ≤ length v → length v ≤ 1024 → fault 0 v ≡ none → check v ≡ made tt
 unfolding check
-passes v i l u e h =
-    let k : length v ≤ first_fault v = omega arith in
-    within_bounds v (made tt) l u (first_fault_none v k)
+passes v l u f = within_bounds v (made tt) l u f
 
 -- A refusal of the check is the refusal of every call that begins from the vector, whatever it would make.
 pub refused_alike : {L W : Type 0} (v : List ℕ) (c : Call L W) (m : Making W) {old : L} {r : Answer} {why : Refusal} → c.Makes (from_vector v m)

@@ -18,8 +18,7 @@ pub fn check(v: &[u16]) -> Answer
     if 1024 < n {
         return refuse(Kind::LeafCount, 0);
     }
-    let i = vector::first_fault(v);
-    if i < n {
+    if let Some(i) = vector::first_fault(v) {
         return refuse(Kind::Entry, i);
     }
     Answer::Done(0)

@@ -13,10 +13,10 @@ pub returns-then-n-gt1024 : goal.returns-then-n-gt1024
 unfolding answers.reads answers.number_of
 returns-then-n-gt1024 c = refused_early _ (large_refused _ c.if-n-gt1024.true) c.refuse-then-n-gt1024.ensures
 
-pub returns-then-i-n : goal.returns-then-i-n
+pub returns-in-Some : goal.returns-in-Some
 unfolding answers.reads answers.number_of
-returns-then-i-n c = refused_early _ (fault_refused _ _ (omega arith) (omega arith) c.first_fault-i.ensures c.if-i-n.true) c.refuse-then-i-n.ensures
+returns-in-Some c = refused_early _ (fault_refused _ _ (omega arith) (omega arith) c.in-Some.ensures) c.refuse-in-Some.ensures
 
 pub returns : goal.returns
 unfolding answers.reads answers.number_of
-returns c = full_room _ _ (passes _ _ (omega arith) (omega arith) c.first_fault-i.ensures c.if-i-n.false) refl (omega arith) refl
+returns c = full_room _ _ (passes _ (omega arith) (omega arith) c.in_default.ensures) refl (omega arith) refl
