@@ -9,7 +9,6 @@ use Rattle.rules.specs.CallWriteArchive.{cut, fault_at, fault_in}
 use Rattle.basics.proofs.Fault.{fault_inside}
 use Rattle.archive_laws.specs.Cut.{Left}
 use Rattle.archive_laws.proofs.Cut.{left_start, left_none, left_some, next_inside, next_size, next_cut, next_left}
-use Rattle.vector.specs.Fault.{first_fault, first_fault_none, first_fault_some}
 
 -- the index of the first entry above its bound, and the list's length where there is none; each vector has n entries
 unfoldable pub first_fault_in : ℕ → List ℕ → ℕ
@@ -64,11 +63,9 @@ pub record Searched (n : ℕ) (xs : List ℕ) (at : ℕ) : Type 0 where
 pub searched_start : {n : ℕ} {xs : List ℕ} → 1 ≤ n → n ≤ 1024 → length xs ≡ length xs / n * n → Searched n xs 0
 searched_start {n} {xs} a b w = record { few = b; left = length xs / n; walk = left_start a w; rest = refl }
 
-pub searched_end : {n : ℕ} {xs : List ℕ} {at : ℕ} → Searched n xs at → length xs ≤ at → length xs ≡ first_fault_in n xs
-unfolding first_fault_in cut fault_in
-searched_end {n} {xs} S h =
-    let e : fault_in 0 (cut n (length xs / n) xs) ≡ none = S.rest ∙ rw (left_none S.walk h) in
-    rw e
+pub searched_end : {n : ℕ} {xs : List ℕ} {at : ℕ} → Searched n xs at → length xs ≤ at → fault_in 0 (cut n (length xs / n) xs) ≡ none
+unfolding cut fault_in
+searched_end {n} {xs} S h = S.rest ∙ rw (left_none S.walk h)
 
 module _ {n : ℕ} {xs : List ℕ} {at : ℕ} (S : Searched n xs at) (h : at < length xs) where
   -- the vector at the index is whole
@@ -85,14 +82,15 @@ module _ {n : ℕ} {xs : List ℕ} {at : ℕ} (S : Searched n xs at) (h : at < l
       let w : Left n xs at (suc m) = rw e at S.walk in
       (m, next_left w, S.rest ∙ (rw (f, ← e) at (fault_step w)))
 
-  pub searched_next : n ≤ first_fault (take n (drop at xs)) → Searched n xs (at + n)
+  pub searched_next : fault 0 (take n (drop at xs)) ≡ none → Searched n xs (at + n)
   unfolding fault_at
-  searched_next l =
-      let (m, w, e) = here none (first_fault_none (take n (drop at xs)) (omega (arith, searched_inside.1))) in
+  searched_next f =
+      let (m, w, e) = here none f in
       record { few = S.few; left = m; walk = w; rest = e }
 
-  pub searched_here : first_fault (take n (drop at xs)) < n → at + first_fault (take n (drop at xs)) ≡ first_fault_in n xs
-  unfolding fault_at first_fault_in
-  searched_here l =
-      let (m, w, e) = here (some (first_fault (take n (drop at xs)))) (first_fault_some (take n (drop at xs)) (omega (arith, searched_inside.1))) in
-      rw e
+  pub searched_here : {i : ℕ} → fault 0 (take n (drop at xs)) ≡ some i
+      → (at + i < length xs) × (fault_in 0 (cut n (length xs / n) xs) ≡ some (at + i))
+  unfolding fault_at
+  searched_here {i} f =
+      let (m, w, e) = here (some i) f in
+      (omega (arith, fault_inside 0 (take n (drop at xs)) i f, searched_inside), e)
