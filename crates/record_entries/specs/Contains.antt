@@ -1,14 +1,12 @@
 -- What the fields of n entries, from a bit on, and the padding behind them contain.
--- Main definition: Contains. Main results: entry_above, entries_within.
-use Rattle.std.specs.Prelude.{Bool, true, false, List, ◌≡◌, ℕ, ◌+◌, ◌≤◌, ◌<◌, length, take, drop}
-use Rattle.std.proofs.Math.Option.{none, some}
-use Rattle.std.proofs.Common.{sym, ap, ◌∙◌, arith}
+-- Main definition: Contains. Main result: fault_of_read.
+use Rattle.std.specs.Prelude.{Bool, true, false, List, ◌≡◌, ℕ, ◌+◌, take, drop}
+use Rattle.std.proofs.Math.Option.{Option, none, some}
+use Rattle.std.proofs.Common.{sym, ap, ◌∙◌}
 use Rattle.rules.specs.Vector.{fault}
 use Rattle.rules.specs.Record.{bits_of, any_set}
 use Rattle.rules.specs.Archive.{field_bits}
-use Rattle.basics.proofs.Listed.{length_listed}
-use Rattle.record_laws.specs.Fields.{entry_from, entries_from}
-use Rattle.vector.specs.Fault.{first_fault, first_fault_some, first_fault_none}
+use Rattle.record_laws.specs.Fields.{entries_from}
 use Rattle.record_entries.specs.declared.Contents.{Contents}
 use Rattle.record_entries.specs.declared.Contents.TheVariants.{Entries, Entry, Padding}
 
@@ -22,17 +20,6 @@ Contains s start n vector Entries = (take n vector ≡ entries_from start n s) �
 Contains s start n vector (Entry i) = fault 0 (entries_from start n s) ≡ some i
 Contains s start n vector Padding = (fault 0 (entries_from start n s) ≡ none) × Set s start n true
 
-length_entries_from : (start n : ℕ) (s : List ℕ) → length (entries_from start n s) ≡ n
-unfolding entries_from
-length_entries_from start n s = length_listed n (entry_from start s)
-
--- the entries were read into xs, and i is the first above its bound, or n
-module _ (s : List ℕ) (start n : ℕ) (xs : List ℕ) {i : ℕ} (read : take n xs ≡ entries_from start n s) (first : i ≡ first_fault (take n xs)) where
-  same : i ≡ first_fault (entries_from start n s)
-  same = first ∙ ap first_fault read
-
-  pub entry_above : i < n → fault 0 (entries_from start n s) ≡ some i
-  entry_above h = first_fault_some (entries_from start n s) (omega (arith, same, length_entries_from start n s)) ∙ ap some (sym same)
-
-  pub entries_within : n ≤ i → fault 0 (entries_from start n s) ≡ none
-  entries_within h = first_fault_none (entries_from start n s) (omega (arith, same, length_entries_from start n s))
+-- the first of the entries above its bound, where they were read into xs
+pub fault_of_read : (s : List ℕ) (start n : ℕ) (xs : List ℕ) {o : Option ℕ} → take n xs ≡ entries_from start n s → fault 0 (take n xs) ≡ o → fault 0 (entries_from start n s) ≡ o
+fault_of_read s start n xs read first = sym (ap (fault 0) read) ∙ first

@@ -1,8 +1,9 @@
 // The entries of a record, one with its n or one of an archive, read and checked.
 #![tactic(auto)]
 
-ghost use Rattle.std.specs.Prelude.{◌≡◌, ◌≤◌, length, take};
-ghost use Rattle.vector.specs.Fault.{first_fault};
+ghost use Rattle.std.specs.Prelude.{◌≡◌, ◌≤◌, MatchOption, length, take};
+ghost use Rattle.std.proofs.Math.Option.{none, some};
+ghost use Rattle.rules.specs.Vector.{fault};
 ghost use Rattle.record.specs.Filled.{Filled};
 ghost use Rattle.record_entries.specs.Contains.{Contains};
 
@@ -15,10 +16,10 @@ pub enum Contents {
     Padding,
 }
 
-// The first of the first n entries above its bound, or n.
-fn first_fault_of(v: &[u16], n: usize) -> usize
+// The first of the first n entries above its bound.
+fn first_fault_of(v: &[u16], n: usize) -> Option<usize>
     requires { (n ≤ 1024) × (n ≤ length v.now) }
-    ensures { result ≡ first_fault (take n v.now) }
+    ensures { MatchOption result (fault 0 (take n v.now) ≡ none) (λ i. fault 0 (take n v.now) ≡ some i) }
 {
     vector::first_fault(&v[..n])
 }
@@ -29,8 +30,7 @@ pub fn read_entries(s: &[u8], start: usize, n: usize, vector: &mut [u16]) -> Con
     ensures { Contains s.now start n vector.new result }
 {
     let padded = record::read_record(s, start, n, vector);
-    let i = first_fault_of(vector, n);
-    if i < n {
+    if let Some(i) = first_fault_of(vector, n) {
         return Contents::Entry(i);
     }
     if padded {
