@@ -35,8 +35,7 @@ pub fn write_archive(leaves: usize, entries: &[u16], out: &mut [u8]) -> Answer
     if trees * leaves != size {
         return refuse(Kind::InputLength, (trees + 1) * leaves);
     }
-    let fault = archive_faults::first_fault_in(entries, leaves);
-    if fault < size {
+    if let Some(fault) = archive_faults::first_fault_in(entries, leaves) {
         return refuse(Kind::Entry, fault);
     }
     let bytes = archive::implied_length(leaves, trees);

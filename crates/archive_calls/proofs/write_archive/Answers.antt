@@ -2,25 +2,18 @@
 use native.Mathlib.Omega.{arith}
 use borrow.Author.Rules.{rules}
 use mathlib.Core.List.{List}
-use mathlib.Core.Option.{none}
-use mathlib.Core.Path.{◌≡◌, sym, ap, ◌∙◌}
-use Prim.Native.Nat.{ℕ, ◌*◌, ◌/◌, ◌≤◌}
+use mathlib.Core.Path.{sym, ◌∙◌}
+use Prim.Native.Nat.{ℕ, ◌*◌, ◌≤◌}
 use lib.ListN.{length}
 use Rattle.rules.specs.Answer as answers
-use Rattle.rules.specs.CallWriteArchive.{cut, fault_in}
 use Rattle.accepting.proofs.Kept.{refused_early, short_room, full_list}
 use Rattle.archive_laws.proofs.Writer.{write_no_leaf, write_many_leaves, write_too_many, write_in_parts, write_above, write_accepted}
-use Rattle.archive_faults.specs.FaultIn.{first_fault_in, fault_in_none, fault_in_some}
 use Rattle.archive_calls.proofs.Counted.{Counted, trees_most, whole_most, next_most}
 use Rattle.archive_calls.proofs.write_archive.Goals as goal
 
 -- behind the checks of the counts
 counted : (n : ℕ) (xs : List ℕ) → 1 ≤ n → n ≤ 1024 → length xs ≤ 2097151 * n → Counted n xs
 counted n xs h l f = record { some_leaf = h; few_leaves = l; few = f }
-
--- behind that of the entries: none is above its bound
-no_fault : (n : ℕ) (xs : List ℕ) {fault : ℕ} → Counted n xs → length xs / n * n ≡ length xs → fault ≡ first_fault_in n xs → length xs ≤ fault → fault_in 0 (cut n (length xs / n) xs) ≡ none
-no_fault n xs C w e h = fault_in_none n xs C.some_leaf (sym w) (rw e at h)
 
 pub returns-then-leaves-eq0 : goal.returns-then-leaves-eq0
 unfolding answers.number_of
@@ -54,16 +47,13 @@ unfolding answers.number_of
 returns-then-trees-leaves c = let C = counted c.args.leaves c.args.entries.now (omega arith) c.if-leaves-gt-MOST_LEAVES.false (omega arith) in
     refused_early _ (write_in_parts _ _ C.some_leaf C.few_leaves C.few c.if-trees-leaves.true) c.refuse-then-trees-leaves.ensures
 
-pub first_fault_in-fault-requires : goal.first_fault_in-fault-requires
-first_fault_in-fault-requires c = let C = counted c.args.leaves c.args.entries.now (omega arith) c.if-leaves-gt-MOST_LEAVES.false (omega arith) in (C.some_leaf, C.few_leaves, sym c.if-trees-leaves.false)
+pub first_fault_in-requires : goal.first_fault_in-requires
+first_fault_in-requires c = let C = counted c.args.leaves c.args.entries.now (omega arith) c.if-leaves-gt-MOST_LEAVES.false (omega arith) in (C.some_leaf, C.few_leaves, sym c.if-trees-leaves.false)
 
-pub returns-then-fault-size : goal.returns-then-fault-size
+pub returns-in-Some : goal.returns-in-Some
 unfolding answers.number_of
-returns-then-fault-size c = let C = counted c.args.leaves c.args.entries.now (omega arith) c.if-leaves-gt-MOST_LEAVES.false (omega arith) in
-    let e = c.first_fault_in-fault.ensures in
-    refused_early _
-    (write_above _ _ C.some_leaf C.few_leaves _ C.few c.if-trees-leaves.false (fault_in_some _ _ (rw e at c.if-fault-size.true)) ∙ ap (answers.refuses 4) (sym e))
-    c.refuse-then-fault-size.ensures
+returns-in-Some c = let C = counted c.args.leaves c.args.entries.now (omega arith) c.if-leaves-gt-MOST_LEAVES.false (omega arith) in
+    refused_early _ (write_above _ _ C.some_leaf C.few_leaves _ C.few c.if-trees-leaves.false c.in-Some.ensures) c.refuse-in-Some.ensures
 
 pub implied_length-bytes-requires : goal.implied_length-bytes-requires
 implied_length-bytes-requires c = let C = counted c.args.leaves c.args.entries.now (omega arith) c.if-leaves-gt-MOST_LEAVES.false (omega arith) in
@@ -72,7 +62,7 @@ implied_length-bytes-requires c = let C = counted c.args.leaves c.args.entries.n
 pub returns-then-out-bytes : goal.returns-then-out-bytes
 unfolding answers.number_of
 returns-then-out-bytes c = let C = counted c.args.leaves c.args.entries.now (omega arith) c.if-leaves-gt-MOST_LEAVES.false (omega arith) in
-    let W = write_accepted _ _ C.some_leaf C.few_leaves C.few c.if-trees-leaves.false (no_fault _ _ C c.if-trees-leaves.false c.first_fault_in-fault.ensures c.if-fault-size.false) in
+    let W = write_accepted _ _ C.some_leaf C.few_leaves C.few c.if-trees-leaves.false c.in_default.ensures in
     short_room _ _ W.0 (W.1 ∙ sym c.implied_length-bytes.ensures) c.if-out-bytes.true c.refuse-then-out-bytes.ensures
 
 pub bare_length-requires : goal.bare_length-requires
@@ -86,7 +76,7 @@ write_archive-requires c = let C = counted c.args.leaves c.args.entries.now (ome
       few_leaves = C.few_leaves;
       whole = sym c.if-trees-leaves.false;
       few = trees_most C;
-      within = no_fault _ _ C c.if-trees-leaves.false c.first_fault_in-fault.ensures c.if-fault-size.false;
+      within = c.in_default.ensures;
       size = c.bare_length.ensures;
       fits = rw c.implied_length-bytes.ensures at c.if-out-bytes.false;
     }
@@ -94,6 +84,6 @@ write_archive-requires c = let C = counted c.args.leaves c.args.entries.now (ome
 pub returns : goal.returns
 unfolding answers.number_of
 returns c = let C = counted c.args.leaves c.args.entries.now (omega arith) c.if-leaves-gt-MOST_LEAVES.false (omega arith) in
-    let W = write_accepted _ _ C.some_leaf C.few_leaves C.few c.if-trees-leaves.false (no_fault _ _ C c.if-trees-leaves.false c.first_fault_in-fault.ensures c.if-fault-size.false) in
+    let W = write_accepted _ _ C.some_leaf C.few_leaves C.few c.if-trees-leaves.false c.in_default.ensures in
     let e = c.implied_length-bytes.ensures in
     full_list _ _ W.0 (W.1 ∙ sym e) c.if-out-bytes.false (rw (← e) at c.write_archive.ensures)
