@@ -1,8 +1,8 @@
 -- The first fault of a permutation, found with a flag for each number below n.
--- Main definitions: place_of, used_at, Mark, Search. Main results: search_start, search_next, search_stop, search_end.
-use Rattle.std.specs.Prelude.{◌≡◌, refl, ◌≢◌, Bool, true, false, cond, List, [], ◌∷◌, ℕ, zero, suc, ◌+◌, ◌≤◌, ◌<◌, ltb, length, get_or, set, drop, replicate}
-use Rattle.std.proofs.Common.{◌∙◌, add-one, arith, drop-cons, lt-ltb, le-ltb}
-use Rattle.std.proofs.Math.Option.{Option, none, some}
+-- Main definitions: used_at, Mark, Search. Main results: search_start, search_next, search_stop, search_end.
+use Rattle.std.specs.Prelude.{◌≡◌, refl, ◌≢◌, Bool, true, false, List, [], ◌∷◌, ℕ, zero, suc, ◌+◌, ◌≤◌, ◌<◌, length, get_or, set, drop, replicate}
+use Rattle.std.proofs.Common.{◌∙◌, add-one, arith, drop-cons}
+use Rattle.std.proofs.Math.Option.{none, some}
 use Rattle.std.proofs.lemmas.List.{length-replicate, get_or-replicate}
 use Rattle.std.proofs.Math.Seq.{drop-length}
 use Rattle.rules.specs.Names.{NameFault, name_fault}
@@ -11,10 +11,6 @@ use Rattle.basics.proofs.Cases.{by_lt}
 use Rattle.basics.proofs.Names.{name_large, value_fine, value_wrong}
 use Rattle.basics.specs.Flagged.{Flagged}
 use Rattle.basics.proofs.Flagged.{flagged_none, flagged_next, name_free, name_taken}
-
--- a place below the length, or none
-unfoldable pub place_of : ℕ → ℕ → Option ℕ
-place_of length' r = cond (ltb r length') (some r) none
 
 -- the values before index i, the last first
 unfoldable pub used_at : ℕ → List ℕ → List ℕ
@@ -68,18 +64,16 @@ search_next {n} {p} {flags} {flags'} {i} T h M e =
 
 -- the value at index i is not
 pub search_stop : {n : ℕ} {p flags flags' : List ℕ} {i : ℕ} {fresh : Bool} → Search n p flags i → i < length p
-    → Mark n (get_or p i 0) flags fresh flags' → fresh ≡ false → permutation_fault n 0 [] p ≡ place_of (length p) i
-unfolding place_of
+    → Mark n (get_or p i 0) flags fresh flags' → fresh ≡ false → permutation_fault n 0 [] p ≡ some i
 search_stop {n} {p} {flags} {flags'} {i} T h M e =
-    rw (lt-ltb i (length p) h)
-    (T.rest
+    T.rest
     ∙ by_lt (get_or p i 0) n
     (λ l. step_wrong n i (used_at i p) p h _ (name_taken T.small l T.marked (M.no e l)))
-    (λ l. step_wrong n i (used_at i p) p h _ (name_large n (used_at i p) (get_or p i 0) l)))
+    (λ l. step_wrong n i (used_at i p) p h _ (name_large n (used_at i p) (get_or p i 0) l))
 
 -- no value is left
-pub search_end : {n : ℕ} {p flags : List ℕ} {i : ℕ} → Search n p flags i → length p ≤ i → permutation_fault n 0 [] p ≡ place_of (length p) i
-unfolding place_of permutation_fault
+pub search_end : {n : ℕ} {p flags : List ℕ} {i : ℕ} → Search n p flags i → length p ≤ i → permutation_fault n 0 [] p ≡ none
+unfolding permutation_fault
 search_end {n} {p} {flags} {i} T h =
     let e : i ≡ length p = omega (arith, T.within) in
-    T.rest ∙ rw (e, drop-length p, le-ltb (length p) (length p) (omega arith))
+    T.rest ∙ rw (e, drop-length p)
