@@ -1,7 +1,9 @@
 -- The rows of a vector, by their children, and the same rows with renamed leaves.
 -- Main definitions: RowsOf, Renamed. Main results: rows_of, rows_tree, rows_renamed, renamed_count, renamed_front.
-use Rattle.std.specs.Prelude.{List, [], ◌∷◌, ◌++◌, map, ◌≡◌, refl, ℕ, zero, suc, ◌+◌, ◌-◌, ◌≤◌, ◌<◌, length, get_or, take}
+use Rattle.std.specs.Prelude.{List, [], ◌++◌, map, ◌≡◌, ℕ, ◌+◌, ◌-◌, ◌≤◌, ◌<◌, length, get_or, take}
 use Rattle.std.proofs.Math.Option.{none}
+use Rattle.std.proofs.Math.ListN.{get_or-append}
+use Rattle.std.proofs.lemmas.List.{get_or-map, length-map}
 use Rattle.std.proofs.Common.{sym, ap, ◌∙◌, arith, take_at}
 use Rattle.rules.specs.Vector.{entry, Valid}
 use Rattle.rules.specs.Tree.{tree_of}
@@ -38,9 +40,7 @@ rows_count v ok = rows_length (length v) (λ c. c) (pairs v) ∙ pairs_count (en
 
 -- an element of a list that begins with the children of rows
 child_at : (f : Row → ℕ) (rs : List Row) (rest : List ℕ) (t : ℕ) → t < length rs → get_or (map f rs ++ rest) t 0 ≡ f (get_or rs t (0, 0, 0))
-child_at f [] rest t h = absurd (omega arith)
-child_at f (r ∷ rs) rest zero h = refl
-child_at f (r ∷ rs) rest (suc t) h = child_at f rs rest t (omega arith)
+child_at f rs rest t h = get_or-append (map f rs) rest 0 t (omega (arith, length-map rs f)) ∙ get_or-map f rs t (0, 0, 0) 0 h
 
 -- what the code that writes the rows of a vector leaves
 pub rows_of : (v left right rest rest' : List ℕ) → Valid v → length left ≡ 1024 → length right ≡ 1024 → length v ≤ 1024

@@ -1,39 +1,29 @@
 // Leaves renamed: in a row, in all rows of a vector, and the vector of the tree that these make.
 #![tactic(auto)]
 
-ghost use Rattle.std.specs.Prelude.{◌≡◌, [], ◌++◌, ◌≤◌, length, drop};
+ghost use Rattle.std.specs.Prelude.{◌≡◌, [], ◌++◌, ◌≤◌, length, drop, map};
 ghost use Rattle.std.proofs.Math.Option.{none};
 ghost use Rattle.rules.specs.Vector.{Vector};
 ghost use Rattle.rules.specs.Tree.{tree_of};
 ghost use Rattle.rules.specs.Order.{vector_of};
 ghost use Rattle.rules.specs.Shuffle.{renamed, permutation_fault};
 ghost use Rattle.shuffle_laws.specs.Rows.{renamed_child};
-ghost use Rattle.renaming.specs.Renames.{renamed_to};
 ghost use Rattle.renaming.specs.VectorRows.{RowsOf};
 
-use numbers::wide;
-
 // A child of a row with the leaves renamed by p: leaf x becomes p(x), and other nodes stay.
-fn renamed_child(n: usize, p: &[u16], child: u16) -> u16
-    requires { n ≤ length p.now }
-    ensures { result ≡ renamed_child n p.now child }
+fn renamed_child(p: &[u16], child: u16) -> u16
+    ensures { result ≡ renamed_child (length p.now) p.now child }
 {
-    let at = wide(child);
-    if at < n {
-        return p[at];
-    }
-    child
+    let at = usize::from(child);
+    if at < p.len() { p[at] } else { child }
 }
 
-// Renames the first count children: leaf x becomes p(x), and other nodes stay.
-fn rename(n: usize, p: &[u16], children: &mut [u16], count: usize)
-    requires { (n ≤ length p.now) × (count ≤ length children.old) }
-    ensures { children.new ≡ renamed_to n p.now count children.old }
+// Renames all of these children.
+fn rename(p: &[u16], children: &mut [u16])
+    ensures { children.new ≡ map (renamed_child (length p.now) p.now) children.old }
 {
-    let mut t = 0;
-    while t < count {
-        children[t] = renamed_child(n, p, children[t]);
-        t += 1;
+    for child in children.iter_mut() {
+        *child = renamed_child(p, *child);
     }
 }
 
@@ -44,8 +34,8 @@ pub fn rename_rows(v: &[u16], p: &[u16], left: &mut [u16], right: &mut [u16], ve
     ensures { vector.new ≡ vector_of (renamed p.now (tree_of v.now)) ++ drop (length v.now) vector.old }
 {
     let n = v.len();
-    rename(n, p, left, n - 1);
-    rename(n, p, right, n - 1);
+    rename(p, &mut left[..n - 1]);
+    rename(p, &mut right[..n - 1]);
     children_order::children_vector(n, left, right, vector);
 }
 

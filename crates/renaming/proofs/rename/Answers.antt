@@ -1,22 +1,13 @@
--- `renaming::rename` meets its contract. The loop's invariant is Renames: the first t children have been renamed.
-use Rattle.renaming.specs.Renames.{renames_start, renames_next, renames_end}
+-- `renaming::rename` meets its contract. The loop's invariant: the first children have been renamed.
+use Rattle.renaming.specs.Renames.{renamed_start, renamed_step, renamed_all}
 use native.Mathlib.Omega.{arith}
 use Rattle.renaming.proofs.rename.Goals as goal
 
-pub loop-t-init : goal.loop-t-init
-loop-t-init c = renames_start _ _ _ _ c.requires.1
+pub loop-child-init : goal.loop-child-init
+loop-child-init c = renamed_start _ _ _
 
-pub bounds-children-t : goal.bounds-children-t
-bounds-children-t c = omega (arith, c.loop-t.invariant.enough, c.loop-t.invariant.long)
-
-pub bounds-children-t-in-loop-t : goal.bounds-children-t-in-loop-t
-bounds-children-t-in-loop-t c = omega (arith, c.loop-t.invariant.enough, c.loop-t.invariant.long)
-
-pub loop-t-preserved : goal.loop-t-preserved
-loop-t-preserved c = renames_next c.loop-t.invariant c.loop-t-test.true c.renamed_child.ensures
-
-pub shape_of-children : goal.shape_of-children
-shape_of-children c = omega (arith, c.loop-t.invariant.long)
+pub loop-child-preserved : goal.loop-child-preserved
+loop-child-preserved c = renamed_step _ _ _ _ _ c.loop-child.invariant (omega arith) c.renamed_child.ensures
 
 pub returns : goal.returns
-returns c = renames_end c.loop-t.invariant c.loop-t-test.false
+returns c = renamed_all _ _ _ _ _ c.loop-child.invariant (omega arith)

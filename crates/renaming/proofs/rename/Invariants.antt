@@ -1,10 +1,7 @@
--- `renaming::rename` meets its contract. The loop's invariant is Renames: the first t children have been renamed.
-use Prim.Native.Nat.{◌-◌}
-use Rattle.renaming.specs.Renames.{Renames}
+-- `renaming::rename` meets its contract. The loop's invariant: the first children have been renamed.
+use Rattle.std.proofs.Common.{◌≡◌, length}
+use Rattle.renaming.specs.Renames.{renamed_to}
 use Rattle.renaming.proofs.rename.Given as goal
 
-abbrev pub invariant-loop-t : goal.invariant-loop-t
-invariant-loop-t l = Renames l.n l.p l.initial.children l.count l.children l.t
-
-abbrev pub decreases-loop-t : goal.decreases-loop-t
-decreases-loop-t l = l.count - l.t
+abbrev pub invariant-loop-child : goal.invariant-loop-child
+invariant-loop-child l = l.children ≡ renamed_to (length l.p) l.p l.child-index l.initial.children

@@ -7,9 +7,9 @@ use Rattle.shuffle_laws.proofs.Rows.{child_leaf, child_inner}
 use native.Mathlib.Omega.{arith}
 use Rattle.renaming.proofs.renamed_child.Goals as goal
 
-pub returns-then-at-n : goal.returns-then-at-n
+pub returns-then-at-p : goal.returns-then-at-p
 unfolding entry
-returns-then-at-n c = ap (λ (x : ℕ). get_or c.args.p.now x 0) c.wide-at.ensures ∙ sym (child_leaf _ _ _ (omega arith))
+returns-then-at-p c = ap (λ (x : ℕ). get_or c.args.p.now x 0) c.from-at.ensures ∙ sym (child_leaf _ _ _ (omega (arith, c.from-at.ensures)))
 
-pub returns : goal.returns
-returns c = sym (child_inner _ _ _ (omega arith))
+pub returns-else-at-p : goal.returns-else-at-p
+returns-else-at-p c = sym (child_inner _ _ _ (omega (arith, c.from-at.ensures)))
