@@ -1,5 +1,5 @@
 -- The whole loop: the queue is emptied, over plain lists.
--- Main definitions: result, Emptying. Main results: emptying_start, start_result, emptying_next, emptying_end.
+-- Main definitions: result, Emptying. Main results: emptying_start, start_result, emptying_end.
 use mathlib.Core.Path.{◌≡◌, refl, sym, ap, ◌∙◌}
 use mathlib.Core.List.{List, [], ◌∷◌, ◌++◌}
 use Prim.Native.Nat.{ℕ, ◌+◌, ◌-◌, ◌*◌, ◌≤◌, ◌<◌}
@@ -65,20 +65,6 @@ start_result {n} {tail} {left} {right} {nodes} {labels} {new} {nodes'} {labels'}
     ∙ ap (λ (q : Queue). outcome (n - 1) 1 q ((zipped_nodes n left right (2 * n - 2), 0) ∷ []) new) (sym (queue_none (zipped_nodes n left right) nodes labels 0))
     ∙ outcome_place (zipped_nodes_lem n left right B.accepted) (n - 1) 1 [] (omega arith) high (omega (arith, L.nodes_room)) (omega (arith, L.labels_room)) P
     ∙ ap (λ (k : ℕ). outcome k 1 (queue_at (zipped_nodes n left right) nodes' labels' 0 tail) [] new') all)
-
-pub emptying_next : {n head tail tail₀ r : ℕ} {left right nodes₀ labels₀ new₀ nodes labels new nodes' labels' new' : List ℕ}
-    → Emptying n left right nodes₀ labels₀ new₀ tail₀ nodes labels new head tail → head < n - 1
-    → Lent n left right nodes' labels' new' × Waits n (zipped_nodes n left right) nodes' labels' (head + 1) r 0
-    × (result n left right nodes labels new head tail ≡ result n left right nodes' labels' new' (head + 1) r)
-    → length new' ≡ length new
-    → Emptying n left right nodes₀ labels₀ new₀ tail₀ nodes' labels' new' (head + 1) r
-emptying_next T h E k = record {
-  lent = E.0;
-  within = omega arith;
-  state = E.1;
-  same = T.same ∙ E.2;
-  long = k ∙ T.long;
-}
 
 -- every inner node has been taken
 pub emptying_end : {n head tail tail₀ : ℕ} {left right nodes₀ labels₀ new₀ nodes labels new : List ℕ}

@@ -7,8 +7,6 @@ ghost use Rattle.shuffle_laws.specs.Handed.{outcome};
 ghost use Rattle.shuffle_laws.specs.Zipped.{zipped_nodes, zipped_tree, Tabled};
 ghost use Rattle.queue.specs.Waits.{queue_at, Waits, Lent, CanTake, Placed};
 
-use numbers::wide;
-
 // A leaf gets its label; another node goes to the back of the queue with it. The result is where the queue ends then.
 fn place(
     n: usize,
@@ -22,7 +20,7 @@ fn place(
     requires { (n ≤ length new.old) × (tail < length nodes.old) × (tail < length labels.old) }
     ensures { Placed n child label tail nodes.old labels.old new.old result nodes.new labels.new new.new }
 {
-    let at = wide(child);
+    let at = usize::from(child);
     if at < n {
         new[at] = label;
         return tail;
@@ -50,7 +48,7 @@ fn take_front(
         × (outcome (n - 1 - head) (head + 1) (queue_at (zipped_nodes n left.now right.now) nodes.old labels.old head tail) [] new.old
         ≡ outcome (n - 1 - (head + 1)) (head + 1 + 1) (queue_at (zipped_nodes n left.now right.now) nodes.new labels.new (head + 1) result) [] new.new) }
 {
-    let row = wide(nodes[head]) - n;
+    let row = usize::from(nodes[head]) - n;
     let label = labels[head];
     let next = (head + 1) as u16;
     let first = left[row];
@@ -75,9 +73,7 @@ pub fn queue(
 {
     let root = 2 * n - 2;
     let mut tail = place(n, root as u16, 0, 0, nodes, labels, new);
-    let mut head = 0;
-    while head < n - 1 {
+    for head in 0..n - 1 {
         tail = take_front(n, head, tail, left, right, nodes, labels, new);
-        head += 1;
     }
 }

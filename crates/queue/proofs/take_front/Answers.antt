@@ -3,32 +3,20 @@ use Rattle.queue.proofs.Taking.{front_row, after_first, after_second}
 use native.Mathlib.Omega.{arith}
 use Rattle.queue.proofs.take_front.Goals as goal
 
-pub bounds-nodes-head : goal.bounds-nodes-head
-bounds-nodes-head c = omega (arith, (front_row c.requires).0, c.requires.lent.nodes_room)
-
 pub overflow_sub-row : goal.overflow_sub-row
 overflow_sub-row c = omega (arith, (front_row c.requires).1)
 
-pub bounds-labels-head : goal.bounds-labels-head
-bounds-labels-head c = omega (arith, (front_row c.requires).0, c.requires.lent.labels_room)
-
-pub offset_bounds-left-row : goal.offset_bounds-left-row
-offset_bounds-left-row c = omega (arith, (front_row c.requires).2, c.requires.lent.lefts, c.wide.ensures)
-
 pub bounds-left-row : goal.bounds-left-row
-bounds-left-row c = omega (arith, (front_row c.requires).2, c.requires.lent.lefts, c.wide.ensures)
-
-pub offset_bounds-right-row : goal.offset_bounds-right-row
-offset_bounds-right-row c = omega (arith, (front_row c.requires).2, c.requires.lent.rights, c.wide.ensures)
+bounds-left-row c = omega (arith, (front_row c.requires).2, c.requires.lent.lefts, c.from.ensures)
 
 pub bounds-right-row : goal.bounds-right-row
-bounds-right-row c = omega (arith, (front_row c.requires).2, c.requires.lent.rights, c.wide.ensures)
+bounds-right-row c = omega (arith, (front_row c.requires).2, c.requires.lent.rights, c.from.ensures)
 
 pub place-mid-requires : goal.place-mid-requires
 place-mid-requires c = omega (arith, (front_row c.requires).3, c.requires.lent)
 
 pub place-requires : goal.place-requires
-place-requires c = after_first c.requires c.wide.ensures c.place-mid.ensures
+place-requires c = after_first c.requires c.from.ensures c.place-mid.ensures
 
 pub returns : goal.returns
-returns c = after_second c.requires c.wide.ensures c.place-mid.ensures c.place.ensures
+returns c = after_second c.requires c.from.ensures c.place-mid.ensures c.place.ensures
