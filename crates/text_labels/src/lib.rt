@@ -15,10 +15,11 @@ pub fn sign(s: &[u8; SIGNS], at: usize) -> u8
     s[at]
 }
 
+#[tactic(auto, unfolding(rules::specs::Newick::is_digit))]
 pub fn digit(c: u8) -> bool
     ensures { result ≡ is_digit c }
 {
-    48 <= c && c <= 57
+    c.is_ascii_digit()
 }
 
 // The label whose first sign is c, which is no 0. The signs are added up as they stand, and 48 for each digit taken off at the end; each
