@@ -1,43 +1,19 @@
--- One look at the bytes of a text: a byte that is a blank, the least byte, how many signs there are, the place of one.
--- Main definitions: NotAbove, Counting, Placing. Main results: blank_last, behind_digit, least_next, plain_signs, count_blank,
--- count_sign, count_end, placing_blank, placing_sign, placing_here, placing_end.
-use mathlib.Core.Path.{◌≡◌, refl, ap, ◌∙◌}
-use mathlib.Core.Bool.{Bool, true, false, ◌&&◌}
+-- One look at the bytes of a text: that no blank is there, how many signs there are, the place of one.
+-- Main definition: Placing. Main results: plain_signs, count_signs, placing_blank, placing_sign, placing_here, placing_end.
+use mathlib.Core.Path.{◌≡◌, refl, ap, sym, ◌∙◌}
+use mathlib.Core.Bool.{Bool, true, false, not, cond}
 use mathlib.Core.List.{List, [], ◌∷◌}
-use Prim.Native.Nat.{ℕ, suc, min, ◌+◌, ◌-◌, ◌≤◌, ◌<◌}
+use Prim.Native.Nat.{ℕ, suc, ◌+◌, ◌-◌, ◌≤◌, ◌<◌}
 use native.Mathlib.Omega.{arith}
-use lib.Dec.{eqb}
+use Rattle.std.specs.List.{count_by, filter}
+use Rattle.std.proofs.lemmas.List.Sums.{length-filter}
 use lib.ListN.{length, get_or, drop, drop_of_length-le}
 use borrow.Author.Tests.{ne_eqb}
 use Rattle.rules.specs.Sent.{blank, signs}
-use Rattle.basics.proofs.Cases.{by_lt}
-use Rattle.blanks.proofs.Marks.{signs_blank, signs_sign}
+use Rattle.blanks.proofs.Marks.{signs_sign}
 use Rattle.blanks.specs.Places.{place_of}
 use Rattle.blanks.proofs.Places.{place_nil, place_blank, place_first, place_later}
 use Rattle.text_laws.proofs.Bytes.{drop_byte}
-
--- a byte that is none of the first three blanks is one exactly when it is the fourth
-pub blank_last : (c : ℕ) → (c ≡ 32 → ⊥) → (c ≡ 9 → ⊥) → (c ≡ 13 → ⊥) → eqb c 10 ≡ blank c
-unfolding blank
-blank_last c a b d = rw (ne_eqb c 32 a, ne_eqb c 9 b, ne_eqb c 13 d)
-
--- two digits, by what is known of the first
-pub behind_digit : {a b told : Bool} → a ≡ true → told ≡ b → told ≡ a && b
-behind_digit e f = rw e f
-
--- no byte before place i is below the least one so far
-pub record NotAbove (s : List ℕ) (least i : ℕ) : Type 0 where
-  pub within : i ≤ length s
-  pub each : (k : ℕ) → k < i → least ≤ get_or s k 0
-
-pub least_start : (s : List ℕ) → NotAbove s 255 0
-least_start s = record { within = omega arith; each = λ k h. absurd (omega arith) }
-
-pub least_next : (s : List ℕ) (least i : ℕ) → i < length s → NotAbove s least i → NotAbove s (min least (get_or s i 0)) (i + 1)
-least_next s least i h N = record { within = omega arith; each = λ k l. by_lt k i (λ e. omega (arith, N.each k e)) (λ e. at k (omega arith)) }
-  where
-    at : (k : ℕ) → k ≡ i → min least (get_or s i 0) ≤ get_or s k 0
-    at k e = rw e (omega arith)
 
 -- where no byte is as low as a blank, all are signs
 above_blank : (c : ℕ) → 32 < c → blank c ≡ false
@@ -50,35 +26,19 @@ plain_signs [] h = refl
 plain_signs (c ∷ s) h =
     signs_sign c s (above_blank c (h 0 (omega arith))) ∙ ap (λ (x : List ℕ). c ∷ x) (plain_signs s (λ k l. h (suc k) (omega arith)))
 
--- so many signs stand between two places
-pub record Counting (s : List ℕ) (from count i : ℕ) : Type 0 where
-  pub within : i ≤ length s
-  pub fewer : count ≤ i
-  pub counts : length (signs (drop from s)) ≡ count + length (signs (drop i s))
+-- the signs are the bytes that are no blanks
+filter_signs : (s : List ℕ) → filter (λ (c : ℕ). not (blank c)) s ≡ signs s
+unfolding signs
+filter_signs [] = refl
+filter_signs (c ∷ s) = go (blank c) refl (filter_signs s)
+  where
+    go : (b : Bool) → blank c ≡ b → filter (λ (x : ℕ). not (blank x)) s ≡ signs s
+        → filter (λ (x : ℕ). not (blank x)) (c ∷ s) ≡ cond b (signs s) (c ∷ signs s)
+    go true e k = rw e k
+    go false e k = rw e (ap (λ (x : List ℕ). c ∷ x) k)
 
-pub count_start : (s : List ℕ) (from : ℕ) → from ≤ length s → Counting s from 0 from
-count_start s from h = record { within = h; fewer = omega arith; counts = omega arith }
-
-module _ (s : List ℕ) (from count i : ℕ) (C : Counting s from count i) where
-  pub count_blank : i < length s → blank (get_or s i 0) ≡ true → Counting s from count (i + 1)
-  count_blank h e = record {
-    within = omega arith;
-    fewer = omega (arith, C.fewer);
-    counts = C.counts ∙ ap (λ (x : List ℕ). count + length x) (ap signs (drop_byte s i h) ∙ signs_blank (get_or s i 0) (drop (i + 1) s) e);
-  }
-
-  pub count_sign : i < length s → blank (get_or s i 0) ≡ false → Counting s from (count + 1) (i + 1)
-  count_sign h e =
-      let one : length (signs (drop i s)) ≡ suc (length (signs (drop (i + 1) s))) =
-      ap length (ap signs (drop_byte s i h) ∙ signs_sign (get_or s i 0) (drop (i + 1) s) e) in
-      record { within = omega arith; fewer = omega (arith, C.fewer); counts = omega (arith, C.counts) }
-
-  pub count_end : length s ≤ i → count ≡ length (signs (drop from s))
-  unfolding signs
-  count_end h = let none : length (signs (drop i s)) ≡ 0 = ap (λ (x : List ℕ). length (signs x)) (drop_of_length-le s h) in omega (arith, C.counts)
-
-pub counting_as : {s : List ℕ} {from count count' i : ℕ} → count' ≡ count → Counting s from count i → Counting s from count' i
-counting_as e C = rw e C
+pub count_signs : (s : List ℕ) → count_by (λ (c : ℕ). not (blank c)) s ≡ length (signs s)
+count_signs s = sym (length-filter (λ (c : ℕ). not (blank c)) s) ∙ ap length (filter_signs s)
 
 -- sign number k stands so many signs behind place i
 pub record Placing (s : List ℕ) (k left i : ℕ) : Type 0 where
@@ -108,8 +68,8 @@ module _ (s : List ℕ) (k left i : ℕ) (P : Placing s k left i) where
         ap (place_of (get_or s i 0 ∷ drop (i + 1) s)) l ∙ place_later (get_or s i 0) (drop (i + 1) s) (left - 1) e in
         record { within = omega arith; place = omega (arith, first) }
 
-  pub placing_end : length s ≤ i → i ≡ place_of s k
-  placing_end h = let z : place_of (drop i s) left ≡ 0 = ap (λ (x : List ℕ). place_of x left) (drop_of_length-le s h) ∙ place_nil left in omega (arith, P.place)
+  pub placing_end : length s ≤ i → length s ≡ place_of s k
+  placing_end h = let z : place_of (drop i s) left ≡ 0 = ap (λ (x : List ℕ). place_of x left) (drop_of_length-le s h) ∙ place_nil left in omega (arith, P.place, P.within)
 
 pub placing_as : {s : List ℕ} {k left left' i : ℕ} → left' ≡ left → Placing s k left i → Placing s k left' i
 placing_as e P = rw e P

@@ -3,6 +3,7 @@
 use mathlib.Core.Path.{◌≡◌, refl, ap, sym, ◌∙◌}
 use mathlib.Core.Bool.{Bool, true, false, ◌&&◌, cond}
 use mathlib.Core.List.{List, [], ◌∷◌, ◌++◌, append-nil, append_assoc}
+use Rattle.std.specs.Prelude.{Result, Ok, Err}
 use Prim.Native.Nat.{ℕ, suc, ◌+◌, ◌-◌, ◌≤◌, ◌<◌}
 use native.Mathlib.Omega.{arith}
 use lib.Dec.{ltb}
@@ -21,9 +22,8 @@ use Rattle.blanks.proofs.Plain.{plain_kept}
 use Rattle.text_laws.proofs.Bytes.{drop_byte, place_digit}
 use Rattle.text_laws.specs.Cells.{AllZero}
 use Rattle.text_laws.specs.Answers.{Same}
-use Rattle.text_signs.specs.Keeping.{kept_of, SignsKept, KeptIn}
-use Rattle.text_signs.specs.declared.Kept.{Kept}
-use Rattle.text_signs.specs.declared.Kept.TheVariants.{Signs, TooMany}
+use Rattle.text_signs.specs.Keeping.{too_many, kept_of, SignsKept, KeptIn}
+use Rattle.text_signs.specs.declared.TooManySigns.{TooManySigns}
 
 -- the first i bytes are squeezed to q signs, of which the last is given, or 0 where there is none
 pub record Squeezing (s array : List ℕ) (last q i : ℕ) : Type 0 where
@@ -123,10 +123,10 @@ module _ {s array : List ℕ} {last q i : ℕ} (S : Squeezing s array last q i) 
           record { few = omega (arith, S.counts); count = ap length all ∙ S.count; there = rw all S.there }
 
       -- a digit behind it does: what is kept ends here
-      pub squeezing_parted : {told : Kept} → told ≡ kept_of q (q + length (signs (drop i s))) → is_digit last && is_digit (get_or s (i + 1) 0) ≡ true → KeptIn s array told
+      pub squeezing_parted : {told : Result ℕ TooManySigns} → told ≡ kept_of q (q + length (signs (drop i s))) → is_digit last && is_digit (get_or s (i + 1) 0) ≡ true → KeptIn s array told
       squeezing_parted is parts-it = rw is (go (ltb 6056 (q + length (signs (drop i s)))) refl)
         where
-          go : (b : Bool) → ltb 6056 (q + length (signs (drop i s))) ≡ b → KeptIn s array (cond b TooMany (Signs q))
+          go : (b : Bool) → ltb 6056 (q + length (signs (drop i s))) ≡ b → KeptIn s array (cond b (Err too_many) (Ok q))
           go true f = omega (arith, S.counts, ltb-true 6056 (q + length (signs (drop i s))) f)
           go false f = ends_here (and_both (is_digit last) (is_digit (get_or s (i + 1) 0)) parts-it).0 (and_both (is_digit last) (is_digit (get_or s (i + 1) 0)) parts-it).1 (ltb-false 6056 (q + length (signs (drop i s))) f)
 

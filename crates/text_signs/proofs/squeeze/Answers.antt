@@ -4,7 +4,7 @@ use Rattle.text_signs.proofs.squeeze.Goals as goal
 use Rattle.text_signs.proofs.squeeze.Goals.{then-is_blank+else-parts_label, else-is_blank+else-q-eq-MOST}
 
 pub loop-i-init : goal.loop-i-init
-loop-i-init c = squeezing_start _ _ c.requires.0 c.requires.1
+loop-i-init c = squeezing_start _ _ c.told-signs c.requires
 
 pub returns-then-parts_label : goal.returns-then-parts_label
 returns-then-parts_label c = let blank = sym c.is_blank.ensures ∙ c.if-is_blank.true in
