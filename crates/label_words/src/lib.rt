@@ -4,7 +4,7 @@
 // Most words are made from others: a label that continues another by one digit has its signs and one more.
 #![tactic(auto)]
 
-ghost use Rattle.std.specs.Prelude.{◌+◌, ◌*◌, ◌≤◌, ◌≡◌, length};
+ghost use Rattle.std.specs.Prelude.{◌+◌, ◌≤◌, ◌≡◌, max};
 ghost use Rattle.label_words.specs.Longer.{Longer};
 ghost use Rattle.label_words.specs.Leaves.{word_places, LeafWords, Tens, TenMore};
 
@@ -21,53 +21,47 @@ pub const THIRD: u32 = 65536;
 pub const FOURTH: u32 = 16777216;
 
 // The words of ten labels that differ in their last digit, from the first of them.
-fn ten_words(words: &mut [u32], at: usize, first: u32, step: u32)
-    requires { (at + 10 ≤ length words.old) × (first ≤ 1000000000) × (step ≤ 16777216) }
+fn ten_words(words: &mut [u32; WORDS], at: usize, first: u32, step: u32)
+    requires room { at + 10 ≤ word_places }
+    requires low { first ≤ 1000000000 }
+    requires short { step ≤ 16777216 }
     ensures { TenMore words.old at first step words.new }
 {
-    let mut d: usize = 0;
-    while d < 10 {
+    for d in 0..10 {
         words[at + d] = first + d as u32 * step;
-        d += 1;
     }
 }
 
 // The words of the labels that continue those of from .. to by one digit: the first of ten has so much more, and each other a step more than
 // the one before it. The result is the label that would be continued next.
-fn longer_labels(words: &mut [u32], from: usize, to: usize, more: u32, step: u32) -> usize
-    requires { (1 ≤ from) × (to ≤ 103) × (more ≤ 900000000) × (step ≤ 16777216) × Tens from words.old × Longer from to more step }
-    ensures { Tens result words.new × (from ≤ result) × (to ≤ result) }
+#[tactic(auto, using(crate::proofs::Tens::small_word))]
+fn longer_labels(words: &mut [u32; WORDS], from: usize, to: usize, more: u32, step: u32) -> usize
+    requires some { 1 ≤ from }
+    requires few { to ≤ 103 }
+    requires low { more ≤ 900000000 }
+    requires short { step ≤ 16777216 }
+    requires stand { Tens from words.old }
+    requires longer { Longer from to more step }
+    ensures stand { Tens result words.new }
+    ensures next { result ≡ max from to }
 {
-    let mut y = from;
-    while y < to {
+    for y in from..to {
         let first = words[y] + more;
         ten_words(words, 10 * y, first, step);
-        y += 1;
     }
-    y
+    from.max(to)
 }
 
 // The words of n leaves: first the labels of one digit, then those of two, three and four, whose count makes room for a sign.
-pub fn leaf_words(words: &mut [u32], n: usize)
-    requires { (n ≤ 1024) × (length words.old ≡ word_places) }
+#[tactic(auto, using(crate::proofs::Tens::first_ten, crate::specs::Longer::word_two, crate::specs::Longer::word_three, crate::specs::Longer::word_four))]
+pub fn leaf_words(words: &mut [u32; WORDS], n: usize)
+    requires { n ≤ 1024 }
     ensures { LeafWords n words.new }
 {
     ten_words(words, 0, FOURTH + 48, 1);
     let tens = (n + 9) / 10;
-    let a = longer_labels(
-        words,
-        1,
-        numbers::lesser(tens, 10),
-        FOURTH + 48 * SECOND,
-        SECOND,
-    );
-    let b = longer_labels(
-        words,
-        a,
-        numbers::lesser(tens, 100),
-        FOURTH + 48 * THIRD,
-        THIRD,
-    );
+    let a = longer_labels(words, 1, tens.min(10), FOURTH + 48 * SECOND, SECOND);
+    let b = longer_labels(words, a, tens.min(100), FOURTH + 48 * THIRD, THIRD);
     longer_labels(words, b, tens, 48 * FOURTH - 3 * FOURTH, FOURTH);
     words[LEAVES] = n as u32;
 }

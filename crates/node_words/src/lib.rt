@@ -4,10 +4,11 @@
 ghost use Rattle.std.specs.Prelude.{◌≡◌, ◌+◌, ◌*◌, length};
 ghost use Rattle.rules.specs.Vector.{Vector};
 ghost use Rattle.numbering.specs.Numbered.{BeforeRows, held_rows};
-ghost use Rattle.label_words.specs.Leaves.{word_places, LeafWords};
+ghost use Rattle.label_words.specs.Leaves.{LeafWords};
 ghost use Rattle.written_tables.specs.Rows.{vector_rows};
 ghost use Rattle.node_words.specs.Paired.{Paired};
 
+use label_words::WORDS;
 use numbers::wide;
 
 // The word of a pair, by its two children.
@@ -41,8 +42,8 @@ fn pair_words(
 }
 
 // The words of the nodes of v's tree.
-pub fn tree_words(v: &[u16], words: &mut [u32])
-    requires { Vector v.now × (length words.old ≡ word_places) }
+pub fn tree_words(v: &[u16], words: &mut [u32; WORDS])
+    requires { Vector v.now }
     ensures { Paired (length v.now) (vector_rows v.now) words.new }
 {
     let mut list = [0u16; merges::ROOM];
