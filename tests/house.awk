@@ -1,7 +1,8 @@
 # The order of the house, read from the text of the files: what tests/house runs. It prints a line for each finding.
 # - A crate depends on its own layer and on lower ones (crates.txt has the layers), names no crate that it does not declare, and
 #   declares none that it does not name. What a declared crate hands on, by `pub use`, need not be declared.
-# - Something refers to each definition and lemma: another one, a file of Rattle, a page of docs/, README.md or a Lib.antt. Samples,
+# - Something refers to each definition and lemma: another one, a file of Rattle, as using(crate::proofs::File::lemma) in an attribute
+#   does, a page of docs/, README.md or a Lib.antt. Samples,
 #   in files named Samples, serve no other proof. The prover itself reads what a proof file says of a goal, `returns : goal.returns`,
 #   and the NAME_spec of a Proof.antt.
 # - A file uses each name that it imports. (A module that is imported whole, by its name or `as` another, also shortens what the prover
@@ -296,8 +297,23 @@ function read_words(line,    k, j, n, m, word, step, module) {
         }
     }
     if (!code) return
+    read_paths(line)
     n = split(line, word, /[^A-Za-z0-9_]+/)
     for (k = 1; k <= n; k++) count(word[k])
+}
+
+# A lemma or a definition that an attribute names by its path, crate::proofs::File::lemma.
+function read_paths(line,    path, name) {
+    while (match(line, /[a-z0-9_]+::(specs|proofs)::[A-Za-z0-9_:]+/)) {
+        path = substr(line, RSTART, RLENGTH)
+        line = substr(line, RSTART + RLENGTH)
+        sub(/^crate::/, crate "::", path)
+        name = path
+        sub(/.*::/, "", name)
+        sub(/::[^:]*$/, "", path)
+        gsub(/::/, "/", path)
+        refers[path, name] = 1
+    }
 }
 
 function count(word) {
