@@ -1,6 +1,6 @@
 -- What fields and the padding behind them contain, as what the bits of a record make: those of its own bytes, or with its n before them.
 -- Main results: entry_made, padding_made, entries_made.
-use Rattle.std.specs.Prelude.{Bool, true, List, ◌≡◌, ℕ, ◌+◌, ◌≤◌, length, take, drop}
+use Rattle.std.specs.Prelude.{Bool, true, List, ◌≡◌, ℕ, ◌+◌, ◌≤◌, length, take, drop, Ok}
 use Rattle.std.proofs.Math.Option.{Option, none, some}
 use Rattle.std.proofs.Common.{sym, ap, ◌∙◌, arith, length-take}
 use Rattle.rules.specs.Vector.{fault}
@@ -11,7 +11,6 @@ use Rattle.rules.specs.CallUnpack.{from_bits}
 use Rattle.record_laws.specs.Fields.{entries_from}
 use Rattle.record_laws.proofs.FromBits.{entry_in_bits, padding_in_bits, bits_accepted, length_entries_in}
 use Rattle.record_entries.specs.Contains.{Contains}
-use Rattle.record_entries.specs.declared.Contents.TheVariants.{Entries}
 
 -- the entries and the padding from a bit on are those in the bits bs
 module _ (s : List ℕ) (start n last : ℕ) (bs : Bits) (entries : entries_from start n s ≡ entries_in n bs)
@@ -28,7 +27,7 @@ module _ (s : List ℕ) (start n last : ℕ) (bs : Bits) (entries : entries_from
   pub padding_made : (fault 0 (entries_from start n s) ≡ none) × (any_set (drop (start + field_bits n) (bits_of s)) ≡ true) → from_bits n last bs ≡ refuses 10 last
   padding_made h = padding_in_bits n last bs (fault_in h.0) (set_in h.1)
 
-  pub entries_made : (xs : List ℕ) → Contains s start n xs Entries → (n ≤ length xs) × (from_bits n last bs ≡ made (take n xs))
+  pub entries_made : (xs : List ℕ) → Contains s start n xs (Ok tt) → (n ≤ length xs) × (from_bits n last bs ≡ made (take n xs))
   entries_made xs h =
       let read : take n xs ≡ entries_in n bs = h.0 ∙ entries in (
         omega (arith, length-take n xs, ap length read, length_entries_in n bs),

@@ -7,11 +7,9 @@ ghost use Rattle.rules.specs.Vector.{fault};
 ghost use Rattle.record.specs.Filled.{Filled};
 ghost use Rattle.record_entries.specs.Contains.{Contains};
 
-/// What fields and the padding behind them give: entries, each within its bound; or the first entry above its bound; or that a padding bit
-/// is set.
-#[derive(Drop)]
-pub enum Contents {
-    Entries,
+/// What is wrong with fields or the padding behind them: the first entry above its bound; or that a padding bit is set.
+#[derive(Clone, Copy)]
+pub enum EntryFault {
     Entry(usize),
     Padding,
 }
@@ -25,16 +23,16 @@ fn first_fault_of(v: &[u16], n: usize) -> Option<usize>
 }
 
 /// Reads the n entries whose fields start at a bit into the front of vector, and checks them and the padding.
-pub fn read_entries(s: &[u8], start: usize, n: usize, vector: &mut [u16]) -> Contents
+pub fn read_entries(s: &[u8], start: usize, n: usize, vector: &mut [u16]) -> Result<(), EntryFault>
     requires { Filled s.now start n × (n ≤ length vector.old) }
     ensures { Contains s.now start n vector.new result }
 {
     let padded = record::read_record(s, start, n, vector);
     if let Some(i) = first_fault_of(vector, n) {
-        return Contents::Entry(i);
+        return Err(EntryFault::Entry(i));
     }
     if padded {
-        return Contents::Padding;
+        return Err(EntryFault::Padding);
     }
-    Contents::Entries
+    Ok(())
 }

@@ -1,6 +1,6 @@
 -- What is read of a tree, by what the public call makes of it.
 -- Main definitions: Gives, bare_made. Main results: bare_filled, entry_above, padding_set, entries_right (what bytes make); record_made.
-use Rattle.std.specs.Prelude.{true, List, [], ◌∷◌, ◌++◌, ◌≡◌, ℕ, zero, suc, ◌+◌, ◌-◌, ◌≤◌, length, take, drop}
+use Rattle.std.specs.Prelude.{true, List, [], ◌∷◌, ◌++◌, ◌≡◌, ℕ, zero, suc, ◌+◌, ◌-◌, ◌≤◌, length, take, drop, Ok}
 use Rattle.std.proofs.lemmas.Bool.{false≢true}
 use Rattle.std.proofs.Math.Option.{none, some}
 use Rattle.std.proofs.Common.{sym, ap, ◌∙◌, zero-add, arith}
@@ -16,7 +16,6 @@ use Rattle.archive_laws.proofs.Reader.{reader_inside}
 use Rattle.record.specs.Filled.{Filled}
 use Rattle.record_entries.specs.Contains.{Contains}
 use Rattle.record_entries.specs.Makes.{entry_made, padding_made, entries_made}
-use Rattle.record_entries.specs.declared.Contents.TheVariants as contents
 use Rattle.rules.specs.declared.Part.{Part}
 use Rattle.archive.specs.Finds.{IsRecord, part_bytes, part_bytes_lem}
 use Rattle.tree_reading.specs.declared.TreeRead.{TreeRead}
@@ -62,7 +61,7 @@ module _ (s : List ℕ) (n : ℕ) (some_leaf : 1 ≤ n) (few : n ≤ 1024) (whol
   padding_set h =
       padding_made s 0 n (bare_length n - 1) packed (entries_behind_count n s) behind h ∙ ap (λ (k : ℕ). refuses 10 (k - 1)) (sym whole)
 
-  pub entries_right : (xs : List ℕ) → Contains s 0 n xs contents.Entries → (n ≤ length xs) × (bare_made n s ≡ made (take n xs))
+  pub entries_right : (xs : List ℕ) → Contains s 0 n xs (Ok tt) → (n ≤ length xs) × (bare_made n s ≡ made (take n xs))
   entries_right = entries_made s 0 n (bare_length n - 1) packed (entries_behind_count n s) behind
 
 -- what the bytes of record r make is what the public call makes

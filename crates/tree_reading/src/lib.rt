@@ -7,7 +7,7 @@ ghost use Rattle.rules.specs.CallReadTree.{read_tree};
 ghost use Rattle.tree_reading.specs.Gives.{Gives, bare_made};
 
 use archive::Found;
-use record_entries::{Contents, read_entries};
+use record_entries::{EntryFault, read_entries};
 
 /// What is read of a tree: a vector with so many entries; or that the archive's length is wrong, with the one wanted; or that its leaf count
 /// is; or that it has no such tree; or the first entry above its bound; or that a padding bit is set, with the number of the record's last
@@ -28,9 +28,9 @@ fn read_bare(bytes: &[u8], n: usize, vector: &mut [u16]) -> TreeRead
     ensures { Gives (bare_made n bytes.now) vector.new result }
 {
     match read_entries(bytes, 0, n, vector) {
-        Contents::Entries => TreeRead::Entries(n),
-        Contents::Entry(i) => TreeRead::Entry(i),
-        Contents::Padding => TreeRead::Padding(bytes.len() - 1),
+        Ok(()) => TreeRead::Entries(n),
+        Err(EntryFault::Entry(i)) => TreeRead::Entry(i),
+        Err(EntryFault::Padding) => TreeRead::Padding(bytes.len() - 1),
     }
 }
 

@@ -1,6 +1,6 @@
 -- What a record gives, by what the public call makes of it.
 -- Main definition: Unpacks. Main results: length_wrong, head_right; headed_filled, entry_above, padding_set, entries_right.
-use Rattle.std.specs.Prelude.{true, List, ◌≢◌, ◌≡◌, ℕ, ◌+◌, ◌-◌, ◌≤◌, length, take}
+use Rattle.std.specs.Prelude.{true, List, ◌≢◌, ◌≡◌, ℕ, ◌+◌, ◌-◌, ◌≤◌, length, take, Ok}
 use Rattle.std.proofs.Math.Option.{none, some}
 use Rattle.std.proofs.Common.{sym, ◌∙◌}
 use Rattle.std.proofs.Math.Path.{ap}
@@ -19,7 +19,6 @@ use Rattle.record_laws.proofs.FromRecord.{headed, wrong_record}
 use Rattle.record.specs.Filled.{Filled}
 use Rattle.record_entries.specs.Contains.{Contains}
 use Rattle.record_entries.specs.Makes.{entry_made, padding_made, entries_made}
-use Rattle.record_entries.specs.declared.Contents.TheVariants as contents
 use Rattle.unpacking.specs.declared.Unpacked.{Unpacked}
 use Rattle.unpacking.specs.declared.Unpacked.TheVariants.{Entries, Length, LeafCount, Entry, Padding}
 
@@ -67,7 +66,7 @@ module _ (s : List ℕ) (n : ℕ) (H : Headed s n) where
   unfolding from_entries
   padding_set h = headed s n H ∙ padding_made s 11 n (length s - 1) (bits_of s) entries behind h
 
-  pub entries_right : (xs : List ℕ) → Contains s 11 n xs contents.Entries → (n ≤ length xs) × (unpack s ≡ made (take n xs))
+  pub entries_right : (xs : List ℕ) → Contains s 11 n xs (Ok tt) → (n ≤ length xs) × (unpack s ≡ made (take n xs))
   unfolding from_entries
   entries_right xs h =
       let made_so = entries_made s 11 n (length s - 1) (bits_of s) entries behind xs h in (made_so.0, headed s n H ∙ made_so.1)

@@ -5,7 +5,7 @@ ghost use Rattle.std.specs.Prelude.{◌≡◌, length};
 ghost use Rattle.record_laws.specs.FromRecord.{Headed};
 ghost use Rattle.unpacking.specs.Unpacks.{Unpacks};
 
-use record_entries::{Contents, read_entries};
+use record_entries::{EntryFault, read_entries};
 
 // What a record gives: a vector with so many entries; or that its length is wrong, with the one wanted; or that its leaf count is;
 // or the first entry above its bound; or that a padding bit is set, with the number of the last byte.
@@ -24,9 +24,9 @@ fn read_headed(s: &[u8], n: usize, vector: &mut [u16]) -> Unpacked
     ensures { Unpacks s.now vector.new result }
 {
     match read_entries(s, lengths::COUNT_BITS as usize, n, vector) {
-        Contents::Entries => Unpacked::Entries(n),
-        Contents::Entry(i) => Unpacked::Entry(i),
-        Contents::Padding => Unpacked::Padding(s.len() - 1),
+        Ok(()) => Unpacked::Entries(n),
+        Err(EntryFault::Entry(i)) => Unpacked::Entry(i),
+        Err(EntryFault::Padding) => Unpacked::Padding(s.len() - 1),
     }
 }
 

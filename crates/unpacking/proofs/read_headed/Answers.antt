@@ -9,11 +9,11 @@ read_entries-requires c = let H = c.requires.0 in (headed_filled c.args.s.now c.
 pub overflow_sub-result : goal.overflow_sub-result
 overflow_sub-result c = let H = c.requires.0 in omega (arith, H.two_bytes)
 
-pub returns-in-Entries : goal.returns-in-Entries
-returns-in-Entries c = entries_right _ _ c.requires.0 _ c.in-Entries.ensures
+pub returns-in-Ok : goal.returns-in-Ok
+returns-in-Ok c = entries_right _ _ c.requires.0 _ c.in-Ok.ensures
 
-pub returns-in-Entry : goal.returns-in-Entry
-returns-in-Entry c = entry_above _ _ c.requires.0 _ c.in-Entry.ensures
+pub returns-in-Err-Entry : goal.returns-in-Err-Entry
+returns-in-Err-Entry c = entry_above _ _ c.requires.0 _ (rw c.in-Err-Entry.field-0-is at c.in-Err-Entry.ensures)
 
-pub returns-in-Padding : goal.returns-in-Padding
-returns-in-Padding c = padding_set _ _ c.requires.0 c.in-Padding.ensures
+pub returns-in-Err-Padding : goal.returns-in-Err-Padding
+returns-in-Err-Padding c = padding_set _ _ c.requires.0 (rw c.in-Err-Padding.field-0-is at c.in-Err-Padding.ensures)
