@@ -1,13 +1,16 @@
 -- How bits are held while a field is put behind them: pushed in from below, and all that is held stored as one word.
 -- Main results: put_counted, none_held.
 use mathlib.Core.Path.{◌≡◌, refl, sym, ap, ◌∙◌}
-use mathlib.Core.List.{List, ◌++◌, append-nil}
+use mathlib.Core.List.{List, [], ◌∷◌, ◌++◌, append-nil}
 use Prim.Native.Nat.{ℕ, ◌+◌, ◌-◌, ◌*◌, ◌/◌, ◌%◌, ◌^◌, ◌≤◌, ◌<◌}
 use native.Mathlib.Nat.{mul-mod_left, add-zero, div-one}
 use native.Mathlib.Numerals.{add-one}
 use native.Mathlib.Omega.{arith}
-use lib.ListN.{length, take, drop, set, length-append, length-drop, length-set, take-append-drop, replicate}
-use lib.Seq.{drop-drop, drop-append-le, take-take, take-suc-set}
+use lib.ListN.{length, take, drop, length-append, length-take, length-drop, take-append-drop, replicate}
+use Rattle.std.specs.Int.{w64, to_be_bytes}
+use Rattle.std.proofs.Common.{append_assoc}
+use Rattle.std.proofs.Math.Seq.{take-append_seam}
+use lib.Seq.{drop-drop, drop-append-le, take-take}
 use lib.Bits.{bit_or, or_shifted}
 use lib.Pow.{shl-shr, mod-pow-add, mod-mod-pow, high, low}
 use Rattle.rules.specs.Record.{Bits, field, number, bytes_of}
@@ -34,9 +37,8 @@ pushed acc have w x h l =
     ∙ rw (high (acc % 2 ^ (64 - have - w + have)) w l, low (acc % 2 ^ (64 - have - w + have)) w l, mod-mod-pow acc (64 - have - w) have)
 
 -- one byte more
-stored_next : (bits : Bits) (k next : ℕ) (buffer : List ℕ) (y : ℕ) → next ≡ k + 1 → k < length buffer → y ≡ byte_at bits k
-    → take k buffer ≡ bytes_of k bits → take next (set buffer k y) ≡ bytes_of next bits
-stored_next bits k next buffer y e l b s = rw (e, add-one k, take-suc-set buffer k y l, s, b) (sym (bytes_snoc k bits))
+byte_next : (bits : Bits) (k next : ℕ) (ys : List ℕ) (y : ℕ) → next ≡ k + 1 → y ≡ byte_at bits k → bytes_of k bits ++ (y ∷ ys) ≡ bytes_of next bits ++ ys
+byte_next bits k next ys y e b = rw (e, add-one k, bytes_snoc k bits, b) (sym (append_assoc (bytes_of k bits) (byte_at bits k ∷ []) ys))
 
 module _ (bits : Bits) (are : AreBits bits) (at have : ℕ) (count : length bits ≡ 8 * at + have) (few : have ≤ 64) (word : ℕ) (held : word ≡ number (drop (8 * at) bits) * 2 ^ (64 - have)) where
   -- a byte of the word that holds the bits from byte at on, and then zero bits
@@ -48,18 +50,27 @@ module _ (bits : Bits) (are : AreBits bits) (at have : ℕ) (count : length bits
       rw (held, ← size) (word_byte (drop (8 * at) bits) k m (are_drop (8 * at) bits are) (omega arith) e)
       ∙ ap (λ (bs : Bits). number (take 8 (bs ++ replicate 8 0))) (drop-drop (8 * k) (8 * at) bits ∙ ap (λ (j : ℕ). drop j bits) place)
 
-  -- the word is stored, byte by byte
+  -- its eight bytes are those that follow
+  word_bytes : bytes_of at bits ++ to_be_bytes w64 word ≡ bytes_of (at + 8) bits
+  word_bytes =
+      byte_next bits at (at + 1) _ _ refl (byte 0 56 refl ∙ ap (byte_at bits) (add-zero at))
+      ∙ byte_next bits (at + 1) (at + 2) _ _ (omega arith) (byte 1 48 refl)
+      ∙ byte_next bits (at + 2) (at + 3) _ _ (omega arith) (byte 2 40 refl)
+      ∙ byte_next bits (at + 3) (at + 4) _ _ (omega arith) (byte 3 32 refl)
+      ∙ byte_next bits (at + 4) (at + 5) _ _ (omega arith) (byte 4 24 refl)
+      ∙ byte_next bits (at + 5) (at + 6) _ _ (omega arith) (byte 5 16 refl)
+      ∙ byte_next bits (at + 6) (at + 7) _ _ (omega arith) (byte 6 8 refl)
+      ∙ byte_next bits (at + 7) (at + 8) _ _ (omega arith) (ap (λ (n : ℕ). n % 256) (sym (div-one word)) ∙ byte 7 0 refl)
+      ∙ append-nil _
+
+  -- the word is stored
   word_stored_lem : (buffer : List ℕ) → take at buffer ≡ bytes_of at bits → at + 8 ≤ length buffer → take (at + 8) (word_stored buffer at word) ≡ bytes_of (at + 8) bits
   unfolding word_stored
   word_stored_lem buffer whole room =
-      stored_next bits (at + 7) (at + 8) _ _ (omega arith) (simp length-set (omega arith)) (ap (λ (n : ℕ). n % 256) (sym (div-one word)) ∙ byte 7 0 refl)
-      (stored_next bits (at + 6) (at + 7) _ _ (omega arith) (simp length-set (omega arith)) (byte 6 8 refl)
-      (stored_next bits (at + 5) (at + 6) _ _ (omega arith) (simp length-set (omega arith)) (byte 5 16 refl)
-      (stored_next bits (at + 4) (at + 5) _ _ (omega arith) (simp length-set (omega arith)) (byte 4 24 refl)
-      (stored_next bits (at + 3) (at + 4) _ _ (omega arith) (simp length-set (omega arith)) (byte 3 32 refl)
-      (stored_next bits (at + 2) (at + 3) _ _ (omega arith) (simp length-set (omega arith)) (byte 2 40 refl)
-      (stored_next bits (at + 1) (at + 2) _ _ (omega arith) (simp length-set (omega arith)) (byte 1 48 refl)
-      (stored_next bits at (at + 1) buffer _ refl (omega arith) (byte 0 56 refl ∙ ap (byte_at bits) (add-zero at)) whole)))))))
+      let front : length (take at buffer ++ to_be_bytes w64 word) ≡ at + 8 = simp (length-append, length-take) (omega arith) in
+      rw front at (take-append_seam (take at buffer ++ to_be_bytes w64 word) (drop (at + 8) buffer))
+      ∙ ap (λ (s : List ℕ). s ++ to_be_bytes w64 word) whole
+      ∙ word_bytes
 
 module _ (bits : Bits) (acc have at : ℕ) (buffer : List ℕ) (w x : ℕ) (r : HoldsBits bits acc have at buffer) (h : have + w < 64) (l : x < 2 ^ w) (room : at + 8 ≤ length buffer) where
   abbrev next : ℕ

@@ -1,6 +1,7 @@
 -- Bits on their way into bytes, and what it means to put a field behind them.
 -- Main definitions: HoldsBits, Held, Room, Put, word_stored. Main results: held_nothing.
-use Rattle.std.specs.Prelude.{◌≡◌, refl, List, [], ◌∷◌, ◌++◌, ℕ, ◌+◌, ◌*◌, ◌/◌, ◌%◌, ◌^◌, ◌≤◌, length, take, drop, set}
+use Rattle.std.specs.Prelude.{◌≡◌, refl, List, [], ◌∷◌, ◌++◌, ℕ, ◌+◌, ◌*◌, ◌/◌, ◌%◌, ◌^◌, ◌≤◌, length, take, drop}
+use Rattle.std.specs.Int.{w64, to_be_bytes}
 use Rattle.std.proofs.Math.Nat.{mod-one}
 use Rattle.rules.specs.Record.{Bits, field, number, bytes_of}
 use Rattle.record_laws.specs.Number.{AreBits}
@@ -32,6 +33,4 @@ pub record Put (p : Pending) (width x : ℕ) (before : List ℕ) (r : Pending) (
 
 -- eight bytes of a word in a buffer
 unfoldable pub word_stored : List ℕ → ℕ → ℕ → List ℕ
-word_stored s at w =
-    set (set (set (set (set (set (set (set s at (w / 2 ^ 56 % 256)) (at + 1) (w / 2 ^ 48 % 256)) (at + 2) (w / 2 ^ 40 % 256)) (at + 3) (w / 2 ^ 32 % 256))
-    (at + 4) (w / 2 ^ 24 % 256)) (at + 5) (w / 2 ^ 16 % 256)) (at + 6) (w / 2 ^ 8 % 256)) (at + 7) (w % 256)
+word_stored s at w = take at s ++ to_be_bytes w64 w ++ drop (at + 8) s

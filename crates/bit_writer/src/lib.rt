@@ -19,18 +19,12 @@ pub fn nothing() -> Pending
 }
 
 // Stores the eight bytes of a word.
+#[tactic(auto, unfolding(crate::specs::Pending::word_stored))]
 fn store_word(out: &mut [u8], at: usize, word: u64)
     requires { at + 8 ≤ length out.old }
     ensures { out.new ≡ word_stored out.old at word }
 {
-    out[at] = ((word >> 56) % 256) as u8;
-    out[at + 1] = ((word >> 48) % 256) as u8;
-    out[at + 2] = ((word >> 40) % 256) as u8;
-    out[at + 3] = ((word >> 32) % 256) as u8;
-    out[at + 4] = ((word >> 24) % 256) as u8;
-    out[at + 5] = ((word >> 16) % 256) as u8;
-    out[at + 6] = ((word >> 8) % 256) as u8;
-    out[at + 7] = (word % 256) as u8;
+    out[at..at + 8].copy_from_slice(&word.to_be_bytes());
 }
 
 /// Appends the `width` bits of x, one at least, by a word that ends in zero bits.
