@@ -13,10 +13,8 @@ pub fn put_singles(v: &[u16], i: usize, end: usize, out: &mut [u8], p: Pending) 
     ensures { PutEntries v.now i end p out.old result out.new }
 {
     let mut q = p;
-    let mut k = i;
-    while k < end {
-        q = bit_writer::put_field(out, q, runs::field_width(k), four_entries::long(v[k]));
-        k += 1;
+    for k in i..end {
+        q = bit_writer::put_field(out, q, runs::field_width(k), u64::from(v[k]));
     }
     q
 }
@@ -28,10 +26,8 @@ fn put_run(v: &[u16], i: usize, end: usize, out: &mut [u8], p: Pending) -> Pendi
 {
     let w = runs::field_width(i);
     let mut q = p;
-    let mut k = i;
-    while k < end {
+    for k in (i..end).step_by(4) {
         q = bit_writer::put_bits(out, q, 4 * w, four_entries::four_from(v, k, w));
-        k += 4;
     }
     q
 }

@@ -21,7 +21,7 @@ pub fn run_end(i: usize, end: usize) -> usize
     requires { Fours i end × (i < end) × (end ≤ 1024) }
     ensures { (i < result) × (result ≤ end) × Run i result }
 {
-    numbers::lesser((1usize << (field_width(i) - 1)) + 1, end)
+    ((1usize << (field_width(i) - 1)) + 1).min(end)
 }
 
 /// Where the fours from entry `first` on end, so that `behind` entries at least follow them.
@@ -29,5 +29,5 @@ pub fn fours_end(first: usize, behind: usize, n: usize) -> usize
     requires { (first ≤ n) × (n ≤ 1024) × (behind ≤ 1024) }
     ensures { (first ≤ result) × (result ≤ n) × (result % 4 ≡ first % 4) × (first < result → result + behind ≤ n) }
 {
-    first + (n - numbers::lesser(first + behind, n)) / 4 * 4
+    first + n.saturating_sub(first + behind) / 4 * 4
 }

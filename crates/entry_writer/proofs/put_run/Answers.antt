@@ -29,3 +29,9 @@ shape_of-out c = c.loop-k.invariant.ahead.same
 
 pub returns : goal.returns
 returns c = ahead_end c.loop-k.invariant.ahead c.loop-k-test.false
+
+-- behind the last four
+pub returns-2 : goal.returns-2
+returns-2 c =
+    let q = c.put_bits-q in
+    ahead_end (along_next c.loop-k.invariant c.loop-k-test.true q.result q.new.out q.auto.out (rw c.four_from.ensures.0 at q.ensures)).ahead (omega arith)

@@ -1,10 +1,6 @@
--- `entry_writer::put_singles` meets its contract. The loop keeps `Ahead`; the measure is the number of entries left.
-use Prim.Native.Nat.{◌-◌}
+-- `entry_writer::put_singles` meets its contract. The loop keeps `Ahead`.
 use Rattle.entry_writer.proofs.Putting.{Ahead}
 use Rattle.entry_writer.proofs.put_singles.Given as goal
 
 abbrev pub invariant-loop-k : goal.invariant-loop-k
 invariant-loop-k l = Ahead l.v l.i l.end l.initial.out l.initial.q l.out l.q l.k
-
-abbrev pub decreases-loop-k : goal.decreases-loop-k
-decreases-loop-k l = l.end - l.k

@@ -19,4 +19,4 @@ overflow_add-field_width c = let w = c.field_width.result in let m : w ≤ 11 = 
 pub returns : goal.returns
 returns c = let i = c.args.i in
     let m = width_most i (omega arith) in
-    run_to i c.args.end _ c.requires.0 (omega arith) (c.lesser.ensures ∙ rw (c.field_width.ensures, run_shift (width i) m))
+    run_to i c.args.end _ c.requires.0 (omega arith) (c.min.ensures ∙ rw (c.field_width.ensures, run_shift (width i) m))
