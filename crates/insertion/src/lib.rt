@@ -1,36 +1,34 @@
 // A name goes into a list that grows at both ends: the shorter side moves.
 #![tactic(auto)]
 
-ghost use Rattle.std.specs.Prelude.{◌≡◌, ◌+◌, ◌<◌, ◌≤◌, length, take, drop};
+ghost use Rattle.std.specs.Prelude.{◌≡◌, ◌+◌, ◌-◌, ◌<◌, ◌≤◌, length, take, drop};
 ghost use Rattle.insertion.specs.Moved.{ins, moved};
 
-// The names behind e, as far as `at`, move down over the name at e, and w follows them.
-fn move_down(list: &mut [u16], e: usize, at: usize, w: u16)
-    requires { (e ≤ at) × (at < length list.old) }
-    ensures { list.new ≡ moved e at w list.old }
+// The `count` names that end at `at` move down by one place, over the name before them, and w follows them.
+fn move_down(list: &mut [u16], at: usize, count: usize, w: u16)
+    requires { (count ≤ at) × (at < length list.old) }
+    ensures { list.new ≡ moved (at - count) at w list.old }
 {
-    let mut k = e;
-    while k != at {
-        list[k] = list[k + 1];
-        k += 1;
+    let e = at - count;
+    for k in 0..count {
+        list[e + k] = list[e + k + 1];
     }
     list[at] = w;
 }
 
-// The names from `at` on, as far as e, move up over the name at e, and w stands before them.
-fn move_up(list: &mut [u16], e: usize, at: usize, w: u16)
-    requires { (at ≤ e) × (e < length list.old) }
-    ensures { list.new ≡ moved e at w list.old }
+// The `count` names from `at` on move up by one place, over the name behind them, and w stands before them.
+fn move_up(list: &mut [u16], at: usize, count: usize, w: u16)
+    requires { at + count < length list.old }
+    ensures { list.new ≡ moved (at + count) at w list.old }
 {
-    let mut k = e;
-    while k != at {
-        list[k] = list[k - 1];
-        k -= 1;
+    for k in (0..count).rev() {
+        list[at + k + 1] = list[at + k];
     }
     list[at] = w;
 }
 
-// A count of sixteens that is enough for k: a loop of whole blocks has no rest to move one by one.
+// A count of sixteens that is enough for k: a loop of whole blocks has no rest to move one by one. So the loops above go over a count,
+// and not from place to place, where the compiler no longer sees that it is one of sixteens: a third more instructions.
 fn blocks(k: usize) -> usize
     requires { k ≤ 1024 }
     ensures { (k ≤ result) × (result ≤ k + 15) }
@@ -46,10 +44,10 @@ pub fn insert(list: &mut [u16], lo: usize, m: usize, s: usize, w: u16) -> usize
 {
     if s < m - s {
         let at = lo - 1 + s;
-        move_down(list, at - blocks(s), at, w);
+        move_down(list, at, blocks(s), w);
         return lo - 1;
     }
     let at = lo + s;
-    move_up(list, at + blocks(m - s), at, w);
+    move_up(list, at, blocks(m - s), w);
     lo
 }
