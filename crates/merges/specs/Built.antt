@@ -1,5 +1,5 @@
 -- The loop that builds the merges of a vector: the two lists hold the merges of the first i entries.
--- Main definitions: Built, NextLeaf, Put. Main results: built_start, next_leaf, put_front, put_behind, built_next, built_end.
+-- Main definitions: Built, MergesOf, NextLeaf, Put. Main results: built_start, next_leaf, put_front, put_behind, built_next, built_end.
 use Rattle.std.specs.Prelude.{◌≡◌, refl, List, ◌∷◌, map, ℕ, suc, ◌+◌, ◌-◌, ◌*◌, ◌≤◌, ◌<◌, length, take, drop, get_or, set}
 use Rattle.std.proofs.Common.{sym, ap, ap₂, ◌∙◌, add-one, arith, length-take, length-drop, length-set, drop-cons, lt-length-set, get_or-set_same, get_or-take, get_or-drop, drop-set-lt, lt-ltb, le-ltb}
 use Rattle.rules.specs.Vector.{entry, bound, Vector}
@@ -22,6 +22,13 @@ pub record Built (v list small : List ℕ) (lo i : ℕ) : Type 0 where
   pub above : list_middle < lo + i
   pub below : lo ≤ list_middle
   pub listed : map (held small) (take (i - 1) (drop lo list)) ≡ pairs_of (entry v) i
+
+-- list from start on and small hold the merges of v
+pub record MergesOf (v list small : List ℕ) (start : ℕ) : Type 0 where
+  pub size : length list ≡ list_room
+  pub size_small : length small ≡ 1024
+  pub inside : start + (length v - 1) ≤ list_room
+  pub listed : map (held small) (take (length v - 1) (drop start list)) ≡ pairs v
 
 pub built_start : {v list small : List ℕ} → Vector v → length list ≡ list_room → length small ≡ 1024 → Built v list small list_middle 1
 unfolding pairs_of
@@ -157,9 +164,14 @@ built_next {v} {list} {list'} {small} {small'} {lo} {lo'} {i} {x} B h ex ls p =
           (sym (pairs_next (entry v) i B.low));
     }
 
-pub built_end : {v list small : List ℕ} {lo i : ℕ} → Built v list small lo i → length v ≤ i → (lo + (length v - 1) ≤ list_room) × (map (held small) (take (length v - 1) (drop lo list)) ≡ pairs v)
+pub built_end : {v list small : List ℕ} {lo i : ℕ} → Built v list small lo i → length v ≤ i → MergesOf v list small lo
 unfolding pairs
 built_end {v} {list} {small} {lo} {i} B h =
     let z : i ≡ length v = omega arith in
     let few = B.accepted.few in
-    (omega arith, rw z at B.listed)
+    record {
+      size = B.size;
+      size_small = B.size_small;
+      inside = omega arith;
+      listed = rw z at B.listed;
+    }
