@@ -4,4 +4,3 @@ pub mod Chain
 pub mod Drawn
 pub mod Built
 pub mod Leaves
-pub mod Lengths

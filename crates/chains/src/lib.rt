@@ -5,40 +5,57 @@
 // of the pair, next[i] the next pair of its chain (0 at the end), last[k] the last pair of the chain of key k (0 where there is none).
 #![tactic(auto)]
 
-ghost use Rattle.std.specs.Prelude.{◌≡◌, List, [], ◌∷◌, ◌++◌, ℕ, set};
+ghost use Rattle.std.specs.Prelude.{◌≡◌, List, [], ◌∷◌, ◌++◌, ℕ, ◌≤◌, set};
 ghost use Rattle.rules.specs.Table.{Row};
 ghost use Rattle.chains.specs.Built.{Built, Adds};
-
-use numbers::wide;
 
 /// The key of a node without a pair: above every name.
 pub const NO_KEY: u16 = 1024;
 
-/// Adds the row of node p with the children l and r to the arrays. a and i are the smaller and the larger of the children's names; names and
-/// lows have the name and the key of each node. A leaf has no pair, and its key is NO_KEY. The pair goes to the end of its key's chain, and
-/// next[i] is 0 from the start; next[0] belongs to no pair.
-pub fn add_pair(
-    names: &mut [u16],
-    lows: &mut [u16],
-    small: &mut [u16],
-    next: &mut [u16],
-    last: &mut [u16],
-    p: usize,
-    l: usize,
-    r: usize,
-    a: usize,
-    i: usize,
-)
-    requires { (n : ℕ) × (rs : List Row) × Adds n rs p l r a i names.old lows.old small.old next.old last.old }
-    ensures by_index { (n : ℕ) (rs : List Row) → Adds n rs p l r a i names.old lows.old small.old next.old last.old
-        → Built n (rs ++ ((l, r, p) ∷ [])) names.new lows.new small.new next.new last.new }
-    ensures names_after { names.new ≡ set names.old p a }
-{
-    let k = numbers::lesser(numbers::lesser(i, wide(lows[l])), wide(lows[r]));
-    let j = wide(last[k]);
-    small[i] = a as u16;
-    next[j] = i as u16;
-    last[k] = i as u16;
-    names[p] = a as u16;
-    lows[p] = k as u16;
+/// The chains of the pairs that were added so far. names and lows have the name and the key of each node; a leaf has no pair, and its key
+/// is NO_KEY.
+#[derive(Drop)]
+pub struct Chains {
+    pub names: [u16; 2048],
+    pub lows: [u16; 2048],
+    pub small: [u16; 1024],
+    pub next: [u16; 1024],
+    pub last: [u16; 1024],
+}
+
+impl Chains {
+    /// The chains of n leaves before the first pair: each leaf is a node of its own.
+    pub fn of_leaves(n: usize) -> Chains
+        requires { n ≤ 1024 }
+        ensures { Built n [] result.names result.lows result.small result.next result.last }
+    {
+        let mut names = [0u16; 2048];
+        lists::number_leaves(&mut names, n);
+        Chains {
+            names,
+            lows: [NO_KEY; 2048],
+            small: [0; 1024],
+            next: [0; 1024],
+            last: [0; 1024],
+        }
+    }
+
+    /// Adds the row of node p with the children l and r. a and i are the smaller and the larger of the children's names. The pair goes to the
+    /// end of its key's chain, and next[i] is 0 from the start; next[0] belongs to no pair.
+    pub fn add_pair(&mut self, p: usize, l: usize, r: usize, a: usize, i: usize)
+        requires { (n : ℕ) × (rs : List Row) × Adds n rs p l r a i self.old.names self.old.lows self.old.small self.old.next self.old.last }
+        ensures by_index { (n : ℕ) (rs : List Row) → Adds n rs p l r a i self.old.names self.old.lows self.old.small self.old.next self.old.last
+            → Built n (rs ++ ((l, r, p) ∷ [])) self.new.names self.new.lows self.new.small self.new.next self.new.last }
+        ensures names_after { self.new.names ≡ set self.old.names p a }
+    {
+        let k = i
+            .min(usize::from(self.lows[l]))
+            .min(usize::from(self.lows[r]));
+        let j = usize::from(self.last[k]);
+        self.small[i] = a as u16;
+        self.next[j] = i as u16;
+        self.last[k] = i as u16;
+        self.names[p] = a as u16;
+        self.lows[p] = k as u16;
+    }
 }

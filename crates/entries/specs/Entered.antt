@@ -1,6 +1,6 @@
 -- From chains to the entries of the vector: keys fall, and each chain is walked from its key.
 -- Main definitions: MadeFrom, Planned, Holding, Entered, Headed. Main results: entered_start, entered_skip, entered_head, headed_next, headed_end, entered_end.
-use Rattle.std.specs.Prelude.{◌≡◌, refl, ◌≢◌, ◌⊎◌, Bool, false, ℕ, zero, suc, ◌+◌, ◌-◌, ◌≤◌, ◌<◌, eqb, ltb, drop, set, replicate}
+use Rattle.std.specs.Prelude.{◌≡◌, refl, ◌≢◌, ◌⊎◌, Bool, false, ℕ, zero, suc, ◌+◌, ◌-◌, ◌≤◌, ◌<◌, eqb, ltb, drop, set}
 use Rattle.std.proofs.Math.Path.{sym, ap, ap₂, subst}
 use Rattle.std.proofs.Common.{◌∙◌, add-one, length-set, get_or-set_same, get_or-set_other, drop-set-lt}
 use Rattle.std.proofs.Math.Logic.{inl, inr, ⊎_elim}
@@ -16,7 +16,7 @@ use Rattle.read_tables.specs.Count.{bit, count}
 use Rattle.read_tables.proofs.Count.{count_none}
 use Rattle.read_tables.specs.Chains.{falling, merges_of, In, Apart, Starts}
 use Rattle.read_tables.proofs.Chains.{in_left, in_right, in_cases}
-use Rattle.ranks.specs.Ranks.{Ranks, also, count_also, count_le, ranks_none}
+use Rattle.ranks.specs.Ranks.{Ranks, also, count_also, count_le}
 use Rattle.chains.specs.Walk.{cell, Walk, ChainIs, chain_pos, far, far_is}
 use Rattle.entries.specs.Entries.{less_in, less_snoc, less_none, less_some, partner_is, earlier_is, none_earlier, listed_from}
 
@@ -83,15 +83,15 @@ in_first : (y : ℕ) (l : List ℕ) → In y (y ∷ l)
 unfolding In
 in_first y l = inl refl
 
-pub entered_start : {n : ℕ} {small : List ℕ} {c : ℕ → List ℕ} {old : List ℕ} → let g : MadeFrom = record { leaves = n; small = small; chains = c; old = old } in Planned g
-    → Entered g n 0 (falling c n) (replicate 16 0) (replicate 1024 0) old
+pub entered_start : {n : ℕ} {small : List ℕ} {c : ℕ → List ℕ} {old blocks names : List ℕ} → let g : MadeFrom = record { leaves = n; small = small; chains = c; old = old } in Planned g
+    → Ranks (λ y. false) blocks names → Entered g n 0 (falling c n) blocks names old
 unfolding In
-entered_start P = record {
+entered_start P R = record {
   planned = P;
   done = [];
   f = λ y. false;
   split = refl;
-  ranked = ranks_none;
+  ranked = R;
   inserted = λ y e. absurd (false≢true e);
   above = λ y h. absurd h;
   made = λ y h. absurd h;

@@ -32,13 +32,11 @@ module _ (k : ℕ) {g : MadeFrom} {small next last : List ℕ} {keys : ℕ} {blo
 pub record Following (k keys : ℕ) (next blocks₀ names₀ out₀ blocks names out : List ℕ) (j : ℕ) : Type 0 where
   pub some_given : (g : MadeFrom) × Headed g k keys next blocks names out j
   pub each : (g : MadeFrom) → Headed g k keys next blocks₀ names₀ out₀ (cell next k) → Headed g k keys next blocks names out j
-  pub of_blocks : length blocks ≡ length blocks₀
-  pub of_names : length names ≡ length names₀
   pub of_out : length out ≡ length out₀
 
 pub following_start : {k keys j : ℕ} {next blocks names out : List ℕ} → (g : MadeFrom) × Headed g k keys next blocks names out (cell next k) → j ≡ cell next k
     → Following k keys next blocks names out blocks names out j
-following_start S e = rw e (record { some_given = S; each = λ g H. H; of_blocks = refl; of_names = refl; of_out = refl })
+following_start S e = rw e (record { some_given = S; each = λ g H. H; of_out = refl })
 
 module _ {k keys j : ℕ} {next blocks₀ names₀ out₀ blocks names out : List ℕ} (F : Following k keys next blocks₀ names₀ out₀ blocks names out j) where
   pub following_end : j ≡ 0 → (g : MadeFrom) → Headed g k keys next blocks₀ names₀ out₀ (cell next k) → Entered g k keys (falling g.chains k) blocks names out
@@ -57,13 +55,10 @@ module _ {k keys j : ℕ} {next blocks₀ names₀ out₀ blocks names out : Lis
       following_few = rw ew (headed_few F.some_given.1 d er)
 
       pub following_next : {x : ℕ} {blocks' names' : List ℕ} → ((f : ℕ → Bool) → Ranks f blocks names → f j ≡ false → Ranks (also f j) blocks' names') → x ≡ cell next j
-          → length blocks' ≡ length blocks → length names' ≡ length names
           → Following k keys next blocks₀ names₀ out₀ blocks' names' (set out j (j - 1 + (keys + r - w))) x
-      following_next I ex lb ln = rw (ew, ex) (record {
+      following_next I ex = rw (ew, ex) (record {
         some_given = (F.some_given.0, headed_next F.some_given.1 d er I);
         each = λ g H. headed_next (F.each g H) d er I;
-        of_blocks = lb ∙ F.of_blocks;
-        of_names = ln ∙ F.of_names;
         of_out = length-set out j (j - 1 + (keys + r - cell out j)) ∙ F.of_out;
       })
 

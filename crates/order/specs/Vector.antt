@@ -1,6 +1,6 @@
 -- The vector of a tree from its chains.
 -- Main definitions: made_from, Filled. Main results: planned, vector_is, filled_start, filled_next, filled_end.
-use Rattle.std.specs.Prelude.{◌≡◌, refl, true, ℕ, ◌+◌, ◌-◌, ◌≤◌, ◌<◌, length, set, replicate}
+use Rattle.std.specs.Prelude.{◌≡◌, refl, true, false, ℕ, ◌+◌, ◌-◌, ◌≤◌, ◌<◌, length, set}
 use Rattle.std.proofs.Math.Path.{sym, ap}
 use Rattle.std.proofs.Common.{ap₂, ◌∙◌, subst, arith, ltb-true, lt-ltb}
 use mathlib.Core.List.{List, ◌++◌}
@@ -15,6 +15,7 @@ use Rattle.clades.proofs.Size.{size_below}
 use Rattle.read_tables.specs.Chains.{chain, falling, merges_of, In, Apart, Bounded}
 use Rattle.read_tables.proofs.Chains.{chain_starts, chain_none, falling_in, in_falling}
 use Rattle.read_tables.proofs.Falls.{order_falls, falling_apart}
+use Rattle.ranks.specs.Ranks.{Ranks}
 use Rattle.chains.specs.Key.{no_key}
 use Rattle.chains.specs.Walk.{cell}
 use Rattle.chains.specs.Drawn.{Drawn}
@@ -73,13 +74,11 @@ pub record Filled (n : ℕ) (small next last out₀ blocks names out : List ℕ)
   pub of_out : length out ≡ length out₀
   pub each : (t : Tree) → Drawn n t small next last → Keyed (made_from n small t out₀) small next last k keys blocks names out
 
-pub filled_start : {n : ℕ} {small next last out : List ℕ} → 1 ≤ n → n ≤ length out → Filled n small next last out (replicate 16 0) (replicate 1024 0) out 0 n
-filled_start {out = out} h l = record { low = h; of_out = refl; each = λ t D. record { entered = entered_start (planned D out l); holding = holding D out; smalls = refl } }
+pub filled_start : {n : ℕ} {small next last out blocks names : List ℕ} → 1 ≤ n → n ≤ length out → Ranks (λ y. false) blocks names
+    → Filled n small next last out blocks names out 0 n
+filled_start {out = out} h l R = record { low = h; of_out = refl; each = λ t D. record { entered = entered_start (planned D out l) R; holding = holding D out; smalls = refl } }
 
 module _ {n : ℕ} {small next last out₀ blocks names out : List ℕ} {keys k : ℕ} (F : Filled n small next last out₀ blocks names out keys k) where
-  pub filled_long : (t : Tree) × Drawn n t small next last → (length blocks ≡ 16) × (length names ≡ 1024)
-  filled_long D = let R = (F.each D.0 D.1).entered.ranked in (R.blocks_long, R.names_long)
-
   -- the next key
   each_key : 1 < k → (t : Tree) → Drawn n t small next last → Keyed (made_from n small t out₀) small next last (k - 1 + 1) keys blocks names out
   each_key h t D =

@@ -1,49 +1,25 @@
--- Adding 1 to every count above a place without a test for each: the steps, which are added to the counts, and the loops over both.
--- Main definitions: Steps, Raised, Added. Main results: raised_next, step_is, added_next.
-use Rattle.std.specs.Prelude.{◌≡◌, refl, Bool, true, false, List, ℕ, ◌+◌, ◌*◌, ◌≤◌, ◌<◌, eqb, ltb, length, get_or, set, replicate}
-use Rattle.std.proofs.Common.{ap₂, ◌∙◌, arith, length-set, get_or-set_same, get_or-set_other, eqb-true, ltb-true, ltb-false, le-ltb}
-use Rattle.std.proofs.lemmas.List.{length-replicate, get_or-replicate}
-use Rattle.std.proofs.lemmas.Bool.{eqb-false}
+-- Adding 1 to every count above a place without a test for each: the steps, which are added to the counts.
+-- Main definitions: Steps, Added. Main results: filled_steps, step_is, added_steps.
+use Rattle.std.specs.Prelude.{◌≡◌, refl, Bool, true, false, List, [], ◌++◌, ℕ, ◌+◌, ◌-◌, ◌*◌, ◌≤◌, ◌<◌, ltb, length, get_or, replicate}
+use Rattle.std.proofs.Common.{ap, ◌∙◌, inl, inr, arith, ltb-true, ltb-false, le-ltb}
+use Rattle.std.proofs.lemmas.Grind.{common_steps}
 use Rattle.read_tables.specs.Count.{bit}
+use Rattle.steps.specs.Summed.{Summed}
 
 -- ---- the steps
--- twice width numbers: 0 below width, and 1 from there up to top
-pub record Raised (width : ℕ) (steps : List ℕ) (top : ℕ) : Type 0 where
+-- width times 0 and then width times 1
+pub record Steps (width : ℕ) (steps : List ℕ) : Type 0 where
   pub long : length steps ≡ 2 * width
   pub low : (k : ℕ) → k < width → get_or steps k 0 ≡ 0
-  pub high : (k : ℕ) → width ≤ k → k < top → get_or steps k 0 ≡ 1
+  pub high : (k : ℕ) → width ≤ k → k < 2 * width → get_or steps k 0 ≡ 1
 
--- width times 0 and then width times 1
-abbrev pub Steps : ℕ → List ℕ → Type 0
-Steps width steps = Raised width steps (2 * width)
-
-pub raised_start : {width n : ℕ} {steps : List ℕ} → n ≡ 2 * width → steps ≡ replicate n 0 → Raised width steps width
-raised_start {width} {n} {steps} e s = rw s (record {
-  long = length-replicate {A = ℕ} n 0 ∙ e;
-  low = λ k l. get_or-replicate {A = ℕ} n k 0 0 (omega arith);
-  high = λ k a b. absurd (omega arith);
+-- 0s whose later half is filled with 1s
+pub filled_steps : (width : ℕ) {ones : List ℕ} → ones ≡ replicate width 1 → Steps width (replicate width 0 ++ (ones ++ []))
+filled_steps width e = rw e (record {
+  long = grind (arith, common_steps);
+  low = λ k l. grind (arith, common_steps);
+  high = λ k a b. grind (arith, common_steps);
 })
-
-pub raised_next : {width k : ℕ} {steps : List ℕ} → Raised width steps k → width ≤ k → k < 2 * width → Raised width (set steps k 1) (k + 1)
-raised_next {width} {k} {steps} R w h = record {
-  long = length-set steps k 1 ∙ R.long;
-  low = λ x l. get_or-set_other steps k x 1 0 (omega arith) ∙ R.low x l;
-  high = λ x a b. go x a b (eqb x k) refl;
-}
-  where
-    go : (x : ℕ) → width ≤ x → x < k + 1 → (y : Bool) → eqb x k ≡ y → get_or (set steps k 1) x 0 ≡ 1
-    go x a b true q = rw (eqb-true x k q) (get_or-set_same steps k 1 0 (omega (arith, R.long)))
-    go x a b false q = let z = eqb-false x k q in get_or-set_other steps k x 1 0 z ∙ R.high x a (omega arith)
-
-pub raised_end : {width k : ℕ} {steps : List ℕ} → Raised width steps k → 2 * width ≤ k → Steps width steps
-raised_end R h = record { long = R.long; low = R.low; high = λ x a b. R.high x a (omega arith) }
-
-step_le : {width : ℕ} {steps : List ℕ} → Steps width steps → (k : ℕ) → k < 2 * width → get_or steps k 0 ≤ 1
-step_le {width} {steps} S k h = go (ltb k width) refl
-  where
-    go : (b : Bool) → ltb k width ≡ b → get_or steps k 0 ≤ 1
-    go true e = omega (arith, S.low k (ltb-true k width e))
-    go false e = omega (arith, S.high k (ltb-false k width e) h)
 
 -- read so that i meets the last 0, the steps are 1 above i and 0 elsewhere
 pub step_is : {width k : ℕ} {steps : List ℕ} (i x : ℕ) → Steps width steps → k < 2 * width → k + i + 1 ≡ width + x → get_or steps k 0 ≡ bit (ltb i x)
@@ -61,29 +37,22 @@ pub record Added (i : ℕ) (counts₀ counts : List ℕ) (end : ℕ) : Type 0 wh
   pub past : (x : ℕ) → x < end → get_or counts x 0 ≡ get_or counts₀ x 0 + bit (ltb i x)
   pub ahead : (x : ℕ) → end ≤ x → get_or counts x 0 ≡ get_or counts₀ x 0
 
-pub added_start : {i at : ℕ} {counts : List ℕ} → at ≤ i → Added i counts counts at
+-- the steps are added, from where the last 0 meets i
+pub added_steps : {width at from i : ℕ} {steps counts₀ counts : List ℕ} → Summed (λ x y z. z ≡ x + y) at counts₀ from steps counts width → Steps width steps
+    → from + i + 1 ≡ width + at → at ≤ i → i < at + width → Added i counts₀ counts (at + width)
 unfolding bit
-added_start {i} h = record { same = refl; past = λ x l. rw (le-ltb i x (omega arith)) (omega arith); ahead = λ x l. refl }
-
-pub added_next : {i x y s : ℕ} {counts₀ counts : List ℕ} → Added i counts₀ counts x → x < length counts₀ → s ≡ bit (ltb i x) → y ≡ x + 1
-    → Added i counts₀ (set counts x (get_or counts x 0 + s)) y
-added_next {i} {x} {y} {s} {counts₀} {counts} A h e d = record {
-  same = length-set counts x (get_or counts x 0 + s) ∙ A.same;
-  past = λ z l. go z l (eqb z x) refl;
-  ahead = λ z l. get_or-set_other counts x z (get_or counts x 0 + s) 0 (omega arith) ∙ A.ahead z (omega arith);
+added_steps {width} {at} {from} {i} {steps} {counts₀} {counts} S T e low high = record {
+  same = S.same;
+  past = λ x l. go x l (ltb x at) refl;
+  ahead = λ x l. S.others x 0 (inr l);
 }
   where
-    go : (z : ℕ) → z < y → (b : Bool) → eqb z x ≡ b → get_or (set counts x (get_or counts x 0 + s)) z 0 ≡ get_or counts₀ z 0 + bit (ltb i z)
-    go z l true q =
-        rw (eqb-true z x q)
-        (get_or-set_same counts x (get_or counts x 0 + s) 0 (omega (arith, A.same))
-        ∙ ap₂ (λ (m n : ℕ). m + n) (A.ahead x (omega arith)) e)
-    go z l false q = let p = eqb-false z x q in get_or-set_other counts x z (get_or counts x 0 + s) 0 p ∙ A.past z (omega arith)
-
--- the next sum stays below a bound
-pub added_fits : {width i x k m : ℕ} {steps counts₀ counts : List ℕ} → Added i counts₀ counts x → Steps width steps → k < 2 * width → get_or counts₀ x 0 + 1 < m
-    → get_or counts x 0 + get_or steps k 0 < m
-added_fits {x = x} {k = k} A S h l = omega (arith, A.ahead x (omega arith), step_le S k h)
-
-pub added_end : {i x y : ℕ} {counts₀ counts : List ℕ} → Added i counts₀ counts x → x ≡ y → Added i counts₀ counts y
-added_end A e = rw (← e) A
+    go : (x : ℕ) → x < at + width → (b : Bool) → ltb x at ≡ b → get_or counts x 0 ≡ get_or counts₀ x 0 + bit (ltb i x)
+    go x l true q =
+        let z = ltb-true x at q in
+        rw (le-ltb i x (omega arith)) (omega (arith, S.others x 0 (inl z)))
+    go x l false q =
+        let z = ltb-false x at q in
+        let p : at + (x - at) ≡ x = omega arith in
+        (rw p at (S.each (x - at) 0 (omega arith)))
+        ∙ ap (λ (n : ℕ). get_or counts₀ x 0 + n) (step_is i x T (omega arith) (omega arith))

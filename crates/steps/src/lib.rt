@@ -1,32 +1,28 @@
 // Adding 1 to every count above a place, without a test for each.
 //
-// Counts get 0s and then 1s added, from where the last 0 meets the place. No test stands in these loops, so that they become vector code.
+// Counts get 0s and then 1s added, from where the last 0 meets the place. No test stands in the loop, so that it becomes vector code.
 #![tactic(auto)]
 
-ghost use Rattle.std.specs.Prelude.{◌≡◌, ℕ, ◌+◌, ◌*◌, ◌/◌, ◌<◌, ◌≤◌, length, get_or, replicate};
+ghost use Rattle.std.specs.Prelude.{◌≡◌, ℕ, ◌+◌, ◌*◌, ◌/◌, ◌<◌, ◌≤◌, length, get_or};
 ghost use Rattle.steps.specs.Steps.{Steps, Added};
+ghost use Rattle.steps.specs.Summed.{Addable, Summed};
 
-/// Sixteen times 0 and then sixteen times 1, for the blocks.
-pub fn raise_blocks(steps: &mut [u16])
-    requires { steps.old ≡ replicate 32 0 }
-    ensures { Steps 16 steps.new }
-{
-    let mut k: usize = 16;
-    while k < 32 {
-        steps[k] = 1;
-        k += 1;
-    }
-}
+use std::ops::Add;
 
-/// 64 times 0 and then 64 times 1, for the names of a block.
-pub fn raise_names(steps: &mut [u8])
-    requires { steps.old ≡ replicate 128 0 }
-    ensures { Steps 64 steps.new }
+// Adds so many steps from one place on to the counts from another on.
+fn add_steps<T: Add<T, Output = T> + Copy, const COUNT: usize>(
+    counts: &mut [T],
+    at: usize,
+    steps: &[T],
+    from: usize,
+)
+    requires counts_room { at + COUNT ≤ length counts.old }
+    requires steps_room { from + COUNT ≤ length steps.now }
+    requires addable { Addable T.can_add at counts.old from steps.now COUNT }
+    ensures { Summed T.add_gives at counts.old from steps.now counts.new COUNT }
 {
-    let mut k: usize = 64;
-    while k < 128 {
-        steps[k] = 1;
-        k += 1;
+    for k in 0..COUNT {
+        counts[at + k] = counts[at + k] + steps[from + k];
     }
 }
 
@@ -37,12 +33,7 @@ pub fn add_to_blocks(blocks: &mut [u16], steps: &[u16], w: usize)
     requires steps { Steps 16 steps.now }
     ensures { Added w blocks.old blocks.new 16 }
 {
-    let from = 15 - w;
-    let mut k: usize = 0;
-    while k < 16 {
-        blocks[k] += steps[from + k];
-        k += 1;
-    }
+    add_steps::<u16, 16>(blocks, 0, steps, 15 - w);
 }
 
 /// One member more, i, in the block of i.
@@ -52,11 +43,5 @@ pub fn add_to_names(names: &mut [u8], steps: &[u8], i: usize)
     requires steps { Steps 64 steps.now }
     ensures { Added i names.old names.new (64 * (i / 64) + 64) }
 {
-    let at = 64 * (i / 64);
-    let from = 63 - i % 64;
-    let mut k: usize = 0;
-    while k < 64 {
-        names[at + k] += steps[from + k];
-        k += 1;
-    }
+    add_steps::<u8, 64>(names, 64 * (i / 64), steps, 63 - i % 64);
 }

@@ -4,7 +4,7 @@ use Rattle.entries.specs.Keyed.{Following}
 use Rattle.entries.proofs.follow.Given as goal
 
 abbrev pub invariant-loop-j : goal.invariant-loop-j
-invariant-loop-j l = Following l.k l.keys l.next l.initial.blocks l.initial.names l.initial.out l.blocks l.names l.out l.j
+invariant-loop-j l = Following l.k l.keys l.next l.initial.set.blocks l.initial.set.names l.initial.out l.set.blocks l.set.names l.out l.j
 
 abbrev pub decreases-loop-j : goal.decreases-loop-j
 decreases-loop-j l = far (cell l.next) 1024 l.j

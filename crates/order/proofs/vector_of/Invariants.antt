@@ -3,7 +3,4 @@ use Rattle.order.specs.Vector.{Filled}
 use Rattle.order.proofs.vector_of.Given as goal
 
 abbrev pub invariant-loop-k : goal.invariant-loop-k
-invariant-loop-k l = Filled l.n l.small l.next l.last l.initial.out l.blocks l.names l.out l.keys l.k
-
-abbrev pub decreases-loop-k : goal.decreases-loop-k
-decreases-loop-k l = l.k
+invariant-loop-k l = Filled l.n l.chains.small l.chains.next l.chains.last l.initial.out l.set.blocks l.set.names l.out l.keys l.k
