@@ -1,23 +1,22 @@
 // The signs of a whole text, read as a node, the sign at its end, and nothing behind it.
 #![tactic(auto)]
 
-ghost use Rattle.std.specs.Prelude.{◌≡◌, List, ℕ, length};
+ghost use Rattle.std.specs.Prelude.{List, ℕ};
 ghost use Rattle.text_reader.specs.Reading.{InFront, TextAnswers};
 
 use text_cells::{BREAK, CELLS, DEPTH, NEXT, PAIR, SIGNS, broken};
 use text_labels::sign;
 use text_nodes::node;
 
-// What a text is read to: a tree with so many leaves; or the sign that breaks the grammar, by its number.
-#[derive(Drop)]
-pub enum Read {
-    Leaves(usize),
-    Broken(usize),
+// The sign that breaks the grammar, by its number.
+#[derive(Clone, Copy, Debug, PartialEq, Eq)]
+pub struct Broken {
+    pub sign: usize,
 }
 
-// The whole text, of which count signs stand in front of zeros.
-pub fn read_text(signs: &[u8; SIGNS], count: usize, m: &mut [u32; CELLS]) -> Read
-    requires { ((t : List ℕ) × InFront t signs.now count) × (length m.old ≡ 2576) }
+// The whole text, of which count signs stand in front of zeros: how many leaves its tree has, or the sign that breaks the grammar.
+pub fn read_text(signs: &[u8; SIGNS], count: usize, m: &mut [u32; CELLS]) -> Result<usize, Broken>
+    requires { (t : List ℕ) × InFront t signs.now count }
     ensures { (t : List ℕ) → InFront t signs.now count → TextAnswers t m.old m.new result }
 {
     m[NEXT] = PAIR;
@@ -25,10 +24,11 @@ pub fn read_text(signs: &[u8; SIGNS], count: usize, m: &mut [u32; CELLS]) -> Rea
     let x = node(signs, m, 0);
     if sign(signs, x) != 59 {
         broken(m, x);
-        return Read::Broken(m[BREAK] as usize);
+        let sign = m[BREAK] as usize;
+        return Err(Broken { sign });
     }
     if x + 1 < count {
-        return Read::Broken(x + 1);
+        return Err(Broken { sign: x + 1 });
     }
-    Read::Leaves((m[NEXT] - PAIR) as usize + 1)
+    Ok((m[NEXT] - PAIR) as usize + 1)
 }
