@@ -1,10 +1,10 @@
 -- Children numbered pair by pair, both lists filled from the front.
--- Main definition: Numbering. Main results: number_leaf, number_pair, numbering_start, numbering_next, numbering_end, part_all.
+-- Main definition: Numbering. Main results: number_leaf, number_pair, numbering_start, numbering_next, numbering_end.
 use mathlib.Core.Path.{◌≡◌, refl, ap, sym, ◌∙◌}
 use mathlib.Core.List.{List, [], ◌∷◌, ◌++◌, map}
 use Prim.Native.Nat.{ℕ, zero, suc, ◌+◌, ◌-◌, ◌≤◌, ◌<◌}
 use native.Mathlib.Omega.{arith}
-use lib.ListN.{length, get_or, take, drop, set, length-take, length-drop, length-map}
+use lib.ListN.{length, get_or, take, drop, set, length-take, length-map}
 use lib.Seq.{take_all, get_or-take}
 use borrow.Author.Tests.{lt-ltb, le-ltb}
 use Rattle.grammar.specs.Closed.{child_number}
@@ -57,10 +57,10 @@ numbering_start {pairs} {n} h g l r = record {
 }
 
 module _ {pairs : List ℕ} {n : ℕ} {left₀ left right₀ right : List ℕ} {k : ℕ} (N : Numbering pairs n left₀ left right₀ right k) where
-  pub numbering_room : k + 1 < n → (k < length left) × (k < length right)
+  pub numbering_room : k < n - 1 → (k < length left) × (k < length right)
   numbering_room h = (omega (arith, N.firsts.same, N.firsts.in_o), omega (arith, N.seconds.same, N.seconds.in_o))
 
-  pub numbering_next : {x y : ℕ} → k + 1 < n → x ≡ first_number n (get_or pairs k 0) → y ≡ second_number n (get_or pairs k 0) → Numbering pairs n left₀ (set left k x) right₀ (set right k y) (k + 1)
+  pub numbering_next : {x y : ℕ} → k < n - 1 → x ≡ first_number n (get_or pairs k 0) → y ≡ second_number n (get_or pairs k 0) → Numbering pairs n left₀ (set left k x) right₀ (set right k y) (k + 1)
   numbering_next h p q = record {
     few = N.few;
     pairs_there = N.pairs_there;
@@ -68,12 +68,8 @@ module _ {pairs : List ℕ} {n : ℕ} {left₀ left right₀ right : List ℕ} {
     seconds = numbers_next (second_number n) pairs (n - 1) N.pairs_there N.seconds (omega arith) q;
   }
 
-  pub numbering_end : n ≤ k + 1 → (left ≡ map (first_number n) (take (n - 1) pairs) ++ drop (n - 1) left₀) × (right ≡ map (second_number n) (take (n - 1) pairs) ++ drop (n - 1) right₀)
+  pub numbering_end : n - 1 ≤ k → (left ≡ map (first_number n) (take (n - 1) pairs) ++ drop (n - 1) left₀) × (right ≡ map (second_number n) (take (n - 1) pairs) ++ drop (n - 1) right₀)
   numbering_end h = (
     numbers_end (first_number n) pairs (n - 1) N.pairs_there N.firsts (omega arith),
     numbers_end (second_number n) pairs (n - 1) N.pairs_there N.seconds (omega arith),
   )
-
--- the part of an array behind a place is all that stands there
-pub part_all : (m : List ℕ) (k : ℕ) → take (length m - k) (drop k m) ≡ drop k m
-part_all m k = take_all (length m - k) (drop k m) (omega (arith, length-drop k m))
