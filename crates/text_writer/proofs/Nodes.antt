@@ -1,11 +1,10 @@
 -- A node that is written: a leaf by its word, a pair child by child.
 -- Main results: leaf_room, leaf_wrote, open_room, first_room, comma_room, second_room, close_room, pair_stands, root_room, end_room, text_stands.
-use mathlib.Core.List.{List}
-use mathlib.Core.Path.{◌≡◌, sym, ap, subst, subst₂, ◌∙◌}
+use mathlib.Core.Path.{◌≡◌, sym, ap, ◌∙◌}
 use Prim.Native.Nat.{ℕ, ◌+◌, ◌-◌, ◌*◌, ◌/◌, ◌%◌, ◌≤◌, ◌<◌}
 use native.Mathlib.Omega.{arith}
-use lib.ListN.{length, get_or, set, length-set}
-use lib.Seq.{sets}
+use lib.ListN.{length, get_or, set, take, drop, length-set}
+use mathlib.Core.List.{List, ◌++◌}
 use borrow.Author.Tests.{lt-ltb}
 use Rattle.rules.specs.Newick.{digits, pair_text, node_text, text_of}
 use Rattle.rules.specs.Tree.{node, least}
@@ -13,13 +12,12 @@ use Rattle.written_tables.specs.Tied.{tree_at, whole_tree}
 use Rattle.written_tables.proofs.Tied.{tree_leaf, tree_pair}
 use Rattle.grammar.proofs.Length.{pair_length}
 use Rattle.digits.specs.Count.{some_digit, digits_at_most}
-use Rattle.label_words.specs.Words.{word_of}
 use Rattle.label_words.specs.Leaves.{leaves_place}
 use Rattle.text_writer.specs.Signs.{word_bytes, sign_count, word_signs, word_bytes_lem}
 use Rattle.text_writer.specs.Output.{sign_places, NodeWords, NodeRoom, TextRoom, Stands}
 use Rattle.text_writer.proofs.Standing.{stands_sign, stands_then, stands_first, text_room}
 
-module _ {n : ℕ} {left right words : List ℕ} {k : ℕ} {text : List ℕ} {at : ℕ} (P : NodeRoom n left right words k text at) where
+module _ {n : ℕ} {left right words : List ℕ} {k at : ℕ} (P : NodeRoom n left right words k at) where
   W : NodeWords n left right words
   W = P.given
 
@@ -37,21 +35,22 @@ module _ {n : ℕ} {left right words : List ℕ} {k : ℕ} {text : List ℕ} {at
     pub leaf_room : at + 4 ≤ sign_places
     leaf_room = omega (arith, P.room, ap length leaf_text, some_digit 3 k)
 
-    pub leaf_stands : Stands (text_at k) at text (sets text at (word_bytes (get_or words k 0))) (at + sign_count (get_or words k 0))
-    leaf_stands =
-        let small : k < 10000 = omega (arith, leaf, W.rows.few) in
-        let d : sign_count (word_of k) ≡ length (digits 4 k) = word_signs k small in
-        let e : get_or words k 0 ≡ word_of k = W.leaf_words.labels k leaf in
-        subst (λ (w : ℕ). Stands (text_at k) at text (sets text at (word_bytes w)) (at + sign_count w)) (sym e)
-        (subst₂ (λ (s : List ℕ) (j : ℕ). Stands s at text (sets text at (word_bytes (word_of k))) (at + j)) (word_bytes_lem k small ∙ sym leaf_text) (sym d)
-        (stands_first text at (length (digits 4 k)) (word_bytes (word_of k)) (omega (arith, leaf_room, P.whole)) (digits_at_most 4 k)))
+    small : k < 10000
+    small = omega (arith, leaf, W.rows.few)
 
-    -- and so does what is the same
-    pub leaf_wrote : {text₁ : List ℕ} {j : ℕ} → text₁ ≡ sets text at (word_bytes (get_or words k 0)) → j ≡ sign_count (get_or words k 0) → Stands (text_at k) at text text₁ (at + j)
-    leaf_wrote e f = subst₂ (λ (l : List ℕ) (j : ℕ). Stands (text_at k) at text l (at + j)) (sym e) (sym f) leaf_stands
+    signs : sign_count (get_or words k 0) ≡ length (digits 4 k)
+    signs = ap sign_count (W.leaf_words.labels k leaf) ∙ word_signs k small
 
     pub leaf_end : at + sign_count (get_or words k 0) ≤ sign_places
-    leaf_end = omega (arith, leaf_stands.end, P.room)
+    leaf_end = omega (arith, signs, ap length leaf_text, P.room)
+
+    -- the word and how many signs it has are stored and counted
+    pub leaf_wrote : {text text₁ : List ℕ} {j : ℕ} → length text ≡ sign_places → text₁ ≡ take at text ++ word_bytes (get_or words k 0) ++ drop (at + 4) text
+        → j ≡ sign_count (get_or words k 0) → Stands (text_at k) at text text₁ (at + j)
+    leaf_wrote {text} whole e f =
+        let w = get_or words k 0 in
+        let s : take (sign_count w) (word_bytes w) ≡ text_at k = rw (signs, W.leaf_words.labels k leaf) (word_bytes_lem k small ∙ sym leaf_text) in
+        rw (e, f, sym s) (stands_first text at (sign_count w) (word_bytes w) (omega (arith, leaf_room)) (omega (arith, signs, digits_at_most 4 k)))
 
   module _ (h' : get_or words leaves_place 0 ≤ k) where
     h : n ≤ k
@@ -101,54 +100,45 @@ module _ {n : ℕ} {left right words : List ℕ} {k : ℕ} {text : List ℕ} {at
     pub open_room : at < sign_places
     open_room = omega (arith, pair_room)
 
-    -- there is room whatever the signs are that stand between the children
-    pub first_room : {opened : List ℕ} → length opened ≡ length text → NodeRoom n left right words l opened (at + 1)
-    first_room e = record { given = W; there = omega (arith, left_child, P.there); whole = e ∙ P.whole; room = omega (arith, pair_room) }
+    pub first_room : NodeRoom n left right words l (at + 1)
+    first_room = record { given = W; there = omega (arith, left_child, P.there); room = omega (arith, pair_room) }
 
     module _ {opened text₁ : List ℕ} {x : ℕ} (F : Stands (text_at l) (at + 1) opened text₁ x) where
       pub comma_room : x < sign_places
       comma_room = omega (arith, pair_room, F.end)
 
-      pub second_room : {next : List ℕ} → length opened ≡ length text → length next ≡ length text₁ → NodeRoom n left right words r next (x + 1)
-      second_room e f =
-          record { given = W; there = omega (arith, right_child, P.there); whole = f ∙ F.whole ∙ e ∙ P.whole; room = omega (arith, pair_room, F.end) }
+      pub second_room : NodeRoom n left right words r (x + 1)
+      second_room = record { given = W; there = omega (arith, right_child, P.there); room = omega (arith, pair_room, F.end) }
 
       pub close_room : {next text₂ : List ℕ} {y : ℕ} → Stands (text_at r) (x + 1) next text₂ y → y < sign_places
       close_room S = omega (arith, pair_room, F.end, S.end)
 
-    module _ {text₁ : List ℕ} {x : ℕ} (F : Stands (text_at l) (at + 1) (set text at 40) text₁ x) where
-      first_whole : length text₁ ≡ sign_places
-      first_whole = F.whole ∙ length-set text at 40 ∙ P.whole
-
-      module _ {text₂ : List ℕ} {y : ℕ} (S : Stands (text_at r) (x + 1) (set text₁ x 44) text₂ y) where
-        second_whole : length text₂ ≡ sign_places
-        second_whole = S.whole ∙ length-set text₁ x 44 ∙ first_whole
-
-        pub pair_stands : Stands (text_at k) at text (set text₂ y 41) (y + 1)
-        unfolding pair_text
-        pair_stands =
-            subst (λ (w : List ℕ). Stands w at text (set text₂ y 41) (y + 1)) (sym pair_text_lem)
-            (stands_then (stands_sign text at 40 (omega (arith, open_room, P.whole)))
-            (stands_then F (stands_then (stands_sign text₁ x 44 (omega (arith, comma_room F, first_whole)))
-            (stands_then S (stands_sign text₂ y 41 (omega (arith, close_room F S, second_whole)))))))
+    pub pair_stands : {text text₁ text₂ : List ℕ} {x y : ℕ} → length text ≡ sign_places → Stands (text_at l) (at + 1) (set text at 40) text₁ x
+        → Stands (text_at r) (x + 1) (set text₁ x 44) text₂ y → Stands (text_at k) at text (set text₂ y 41) (y + 1)
+    unfolding pair_text
+    pair_stands {text} {text₁} {text₂} {x} {y} whole F S =
+        let one : length text₁ ≡ sign_places = F.whole ∙ length-set text at 40 ∙ whole in
+        let two : length text₂ ≡ sign_places = S.whole ∙ length-set text₁ x 44 ∙ one in
+        rw pair_text_lem
+        (stands_then (stands_sign text at 40 (omega (arith, open_room)))
+        (stands_then F (stands_then (stands_sign text₁ x 44 (omega (arith, comma_room F)))
+        (stands_then S (stands_sign text₂ y 41 (omega (arith, close_room F S)))))))
 
 -- the whole text
-module _ {n : ℕ} {left right words text : List ℕ} (T : TextRoom n left right words text) where
-  pub root_room : NodeRoom n left right words (n + (n - 1) - 1) text 0
+module _ {n : ℕ} {left right words : List ℕ} (T : TextRoom n left right words) where
+  pub root_room : NodeRoom n left right words (n + (n - 1) - 1) 0
   unfolding whole_tree
-  root_room =
-      record {
-        given = T.given;
-        there = omega (arith, T.given.rows.some_leaf);
-        whole = T.whole;
-        room = omega (arith, T.room, text_room (tree_at n left right (n + (n - 1) - 1)));
-      }
+  root_room = record {
+    given = T.given;
+    there = omega (arith, T.given.rows.some_leaf);
+    room = omega (arith, T.room, text_room (tree_at n left right (n + (n - 1) - 1)));
+  }
 
-  module _ {text₁ : List ℕ} {x : ℕ} (S : Stands (node_text (tree_at n left right (n + (n - 1) - 1))) 0 text text₁ x) where
-    pub end_room : (x < sign_places) × (length text₁ ≡ sign_places)
+  module _ {text text₁ : List ℕ} {x : ℕ} (S : Stands (node_text (tree_at n left right (n + (n - 1) - 1))) 0 text text₁ x) where
+    pub end_room : x < sign_places
     unfolding whole_tree
-    end_room = (omega (arith, S.end, T.room, text_room (tree_at n left right (n + (n - 1) - 1))), S.whole ∙ T.whole)
+    end_room = omega (arith, S.end, T.room, text_room (tree_at n left right (n + (n - 1) - 1)))
 
-    pub text_stands : Stands (text_of (whole_tree n left right)) 0 text (set text₁ x 59) (x + 1)
+    pub text_stands : length text ≡ sign_places → Stands (text_of (whole_tree n left right)) 0 text (set text₁ x 59) (x + 1)
     unfolding whole_tree text_of
-    text_stands = stands_then S (stands_sign text₁ x 59 (omega (arith, end_room)))
+    text_stands whole = stands_then S (stands_sign text₁ x 59 (omega (arith, end_room, S.whole)))

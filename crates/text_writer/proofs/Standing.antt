@@ -1,21 +1,16 @@
 -- Texts that stand one behind another.
--- Main results: four_there, stands_sign, stands_then, stands_first, text_room.
+-- Main results: stands_sign, stands_then, stands_first, text_room.
 use mathlib.Core.Path.{◌≡◌, refl, ap, ap₂, sym, ◌∙◌}
 use mathlib.Core.List.{List, [], ◌∷◌, ◌++◌, append_assoc}
-use Prim.Native.Nat.{ℕ, suc, ◌+◌, ◌≤◌, ◌<◌}
+use Prim.Native.Nat.{ℕ, ◌+◌, ◌≤◌, ◌<◌}
 use native.Mathlib.Omega.{arith}
 use native.Mathlib.Numerals.{add-one}
+use Rattle.std.proofs.lemmas.Grind.{common_steps}
 use lib.ListN.{length, take, drop, set, length-append, length-set}
-use lib.Seq.{sets, length-sets, sets-eq, length-take-le, take-suc-set, take-append-add, take-append-le}
+use lib.Seq.{length-take-le, take-suc-set, take-append-add, take-append-le}
 use Rattle.rules.specs.Newick.{node_text, text_of}
 use Rattle.rules.specs.Tree.{Tree}
 use Rattle.text_writer.specs.Output.{Stands}
-
-pub four_there : (l : List ℕ) (at a b c d : ℕ) → set (set (set (set l at a) (at + 1) b) (at + 2) c) (at + 3) d ≡ sets l at (a ∷ b ∷ c ∷ d ∷ [])
-four_there l at a b c d =
-    let p : at + 2 ≡ suc (suc at) = omega arith in
-    let q : at + 3 ≡ suc (suc (suc at)) = omega arith in
-    rw (add-one, p, q)
 
 -- one sign stands behind what stood before it
 pub stands_sign : (l : List ℕ) (at c : ℕ) → at < length l → Stands (c ∷ []) at l (set l at c) (at + 1)
@@ -31,15 +26,16 @@ stands_then {u} {v} {at} {x} {y} {l} {l₁} {l₂} A B =
     }
 
 -- the first bytes of what is stored stand
-pub stands_first : (l : List ℕ) (at k : ℕ) (bytes : List ℕ) → at + length bytes ≤ length l → k ≤ length bytes → Stands (take k bytes) at l (sets l at bytes) (at + k)
+pub stands_first : (l : List ℕ) (at k : ℕ) (bytes : List ℕ) → at + length bytes ≤ length l → k ≤ length bytes
+    → Stands (take k bytes) at l (take at l ++ bytes ++ drop (at + length bytes) l) (at + k)
 stands_first l at k bytes h g =
+    let rest = drop (at + length bytes) l in
     let e : length (take at l) + k ≡ at + k = omega (arith, length-take-le at l (omega arith)) in
     record {
       end = omega (arith, length-take-le k bytes g);
-      whole = length-sets l at bytes;
+      whole = grind (arith, common_steps);
       front =
-          ap₂ take (sym e) (sets-eq bytes l at h ∙ append_assoc (take at l) bytes (drop (at + length bytes) l)) ∙ take-append-add (take at l) (bytes ++ drop (at + length bytes) l) k
-          ∙ ap (λ (b : List ℕ). take at l ++ b) (take-append-le k bytes (drop (at + length bytes) l) g);
+          ap₂ take (sym e) (append_assoc (take at l) bytes rest) ∙ take-append-add (take at l) (bytes ++ rest) k ∙ ap (λ (b : List ℕ). take at l ++ b) (take-append-le k bytes rest g);
     }
 
 pub text_room : (t : Tree) → length (text_of t) ≡ length (node_text t) + 1

@@ -33,14 +33,12 @@ pub record NodeWords (n : ℕ) (left right words : List ℕ) : Type 0 where
   pub pair_word : (j : ℕ) → j < n - 1 → get_or words (n + j) 0 ≡ get_or left j 0 + 65536 * get_or right j 0
 
 -- a node of these rows, and room for its text from a place on, with three bytes that may be written over
-pub record NodeRoom (n : ℕ) (left right words : List ℕ) (node : ℕ) (text : List ℕ) (at : ℕ) : Type 0 where
+pub record NodeRoom (n : ℕ) (left right words : List ℕ) (node at : ℕ) : Type 0 where
   pub given : NodeWords n left right words
   pub there : node < n + (n - 1)
-  pub whole : length text ≡ sign_places
   pub room : at + length (node_text (tree_at n left right node)) + 3 ≤ sign_places
 
 -- and so for the whole text
-pub record TextRoom (n : ℕ) (left right words text : List ℕ) : Type 0 where
+pub record TextRoom (n : ℕ) (left right words : List ℕ) : Type 0 where
   pub given : NodeWords n left right words
-  pub whole : length text ≡ sign_places
   pub room : length (text_of (whole_tree n left right)) + 3 ≤ sign_places

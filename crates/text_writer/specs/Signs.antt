@@ -1,7 +1,7 @@
 -- The signs of a label, by its word.
 -- Main definitions: word_bytes, sign_count. Main results: word_signs, word_bytes_lem.
-use Rattle.std.specs.Prelude.{cond, List, [], ◌∷◌, ◌≡◌, refl, ℕ, ◌+◌, ◌*◌, ◌/◌, ◌%◌, ◌≤◌, ◌<◌, ltb, length, take}
-use Rattle.std.proofs.Common.{sym, ap, subst, ◌∙◌, arith, lt-ltb, le-ltb}
+use Rattle.std.specs.Prelude.{List, [], ◌∷◌, ◌≡◌, ℕ, ◌+◌, ◌*◌, ◌/◌, ◌%◌, ◌≤◌, ◌<◌, min, length, take}
+use Rattle.std.proofs.Common.{sym, ap, subst, ◌∙◌, arith}
 use Rattle.rules.specs.Newick.{digits}
 use Rattle.grammar.proofs.Decimal.{digits_one, digits_two, digits_three, digits_four}
 use Rattle.label_words.specs.Words.{word_of, last_tens, last_ones, word_one, word_two_digits, word_three_digits, word_four_digits, by_digits}
@@ -12,34 +12,19 @@ word_bytes w = w % 256 ∷ w / 256 % 256 ∷ w / 65536 % 256 ∷ w / 16777216 % 
 
 -- how many signs a word has
 unfoldable pub sign_count : ℕ → ℕ
-sign_count w = cond (ltb (w / 16777216) 4) (w / 16777216) 4
-
-pub few_signs : (w k : ℕ) → w / 16777216 ≡ k → k < 4 → sign_count w ≡ k
-unfolding sign_count
-few_signs w k e h = rw (e, lt-ltb k 4 h)
-
-pub four_signs : (w : ℕ) → 4 ≤ w / 16777216 → sign_count w ≡ 4
-unfolding sign_count
-four_signs w h = rw (le-ltb (w / 16777216) 4 h)
+sign_count w = min (w / 16777216) 4
 
 -- a label's word tells how many signs it has
 pub word_signs : (x : ℕ) → x < 10000 → sign_count (word_of x) ≡ length (digits 4 x)
+unfolding sign_count
 word_signs x h = by_digits (λ (x : ℕ). sign_count (word_of x) ≡ length (digits 4 x)) x h
-    (λ a. few_signs (word_of x) 1 (omega (arith, word_one x a)) (omega arith) ∙ sym (ap length (digits_one 3 x a)))
-    (λ a b. few_signs (word_of x) 2 (omega (arith, word_two_digits x a b)) (omega arith) ∙ sym (ap length (digits_two 2 x a b)))
-    (λ a b. few_signs (word_of x) 3 (omega (arith, word_three_digits x a b)) (omega arith) ∙ sym (ap length (digits_three 1 x a b)))
-    (λ a. four_signs (word_of x) (omega (arith, word_four_digits x a h)) ∙ sym (ap length (digits_four 0 x a h)))
+    (λ a. omega (arith, word_one x a, ap length (digits_one 3 x a)))
+    (λ a b. omega (arith, word_two_digits x a b, ap length (digits_two 2 x a b)))
+    (λ a b. omega (arith, word_three_digits x a b, ap length (digits_three 1 x a b)))
+    (λ a. omega (arith, word_four_digits x a h, ap length (digits_four 0 x a h)))
 
 bytes_of : (w a b c d : ℕ) → w ≡ a + 256 * b + 65536 * c + 16777216 * d → a < 256 → b < 256 → c < 256 → d < 256 → word_bytes w ≡ a ∷ b ∷ c ∷ d ∷ []
-bytes_of w a b c d e ha hb hc hd =
-    let y : w / 256 ≡ b + 256 * c + 65536 * d = omega arith in
-    let z : w / 65536 ≡ c + 256 * d = omega arith in
-    let v : w / 16777216 ≡ d = omega arith in
-    let p : w % 256 ≡ a = omega arith in
-    rw (y, z, v, p, lowest b (c + 256 * d) (b + 256 * c + 65536 * d) (omega arith) hb, lowest c d (c + 256 * d) refl hc, lowest d 0 d (omega arith) hd)
-  where
-    lowest : (x k y : ℕ) → y ≡ x + 256 * k → x < 256 → y % 256 ≡ x
-    lowest x k y e h = omega arith
+bytes_of w a b c d e ha hb hc hd = grind arith
 
 -- and begins with its signs
 pub word_bytes_lem : (x : ℕ) → x < 10000 → take (length (digits 4 x)) (word_bytes (word_of x)) ≡ digits 4 x

@@ -5,45 +5,38 @@
 // first one lowest.
 #![tactic(auto)]
 
-ghost use Rattle.std.specs.Prelude.{ℕ, ◌+◌, ◌≤◌, ◌≡◌, List, length};
-ghost use Rattle.std.proofs.lemmas.List.Edits.{sets};
+ghost use Rattle.std.specs.Prelude.{ℕ, ◌+◌, ◌≤◌, ◌≡◌, List, ◌++◌, take, drop};
 ghost use Rattle.rules.specs.Newick.{node_text, text_of};
 ghost use Rattle.written_tables.specs.Tied.{tree_at, whole_tree};
 ghost use Rattle.text_writer.specs.Signs.{word_bytes, sign_count};
 ghost use Rattle.text_writer.specs.Output.{sign_places, NodeRoom, TextRoom, Stands};
 
-use label_words::{FOURTH, LEAVES, SECOND, THIRD, WORDS};
+use label_words::{FOURTH, LEAVES, WORDS};
 
 // How many bytes the array has that a text is written to: the longest text has 6,056, and a label's word may pass its end.
 pub const SIGNS: usize = 6144;
 
-// The four bytes of a word, the lowest first: the compiler makes one store of them.
+// The four bytes of a word, the lowest first.
 fn put_word(w: u32, text: &mut [u8; SIGNS], at: usize)
-    requires { (at + 4 ≤ sign_places) × (length text.old ≡ sign_places) }
-    ensures { text.new ≡ sets text.old at (word_bytes w) }
+    requires { at + 4 ≤ sign_places }
+    ensures { text.new ≡ take at text.old ++ word_bytes w ++ drop (at + 4) text.old }
 {
-    text[at] = (w % 256) as u8;
-    text[at + 1] = (w / SECOND % 256) as u8;
-    text[at + 2] = (w / THIRD % 256) as u8;
-    text[at + 3] = (w / FOURTH % 256) as u8;
+    text[at..at + 4].copy_from_slice(&w.to_le_bytes());
 }
 
 // How many signs a label has, by its word.
+#[tactic(auto, unfolding(crate::specs::Signs::sign_count))]
 fn sign_count(w: u32) -> usize
     ensures { result ≡ sign_count w }
 {
-    let count = w / FOURTH;
-    if count < 4 {
-        return count as usize;
-    }
-    4
+    (w / FOURTH).min(4) as usize
 }
 
 // The text of a node, leaf or pair. The bytes of a label's word that are no signs stand behind it until what follows overwrites them. A
 // pair's word is read behind its bracket, so that a leaf saves no registers for it.
 fn write_node(words: &[u32; WORDS], node: usize, text: &mut [u8; SIGNS], at: usize) -> usize
-    requires { (n : ℕ) × (left : List ℕ) × (right : List ℕ) × NodeRoom n left right words.now node text.old at }
-    ensures { (n : ℕ) (left right : List ℕ) → NodeRoom n left right words.now node text.old at → Stands (node_text (tree_at n left right node)) at text.old text.new result }
+    requires { (n : ℕ) × (left : List ℕ) × (right : List ℕ) × NodeRoom n left right words.now node at }
+    ensures { (n : ℕ) (left right : List ℕ) → NodeRoom n left right words.now node at → Stands (node_text (tree_at n left right node)) at text.old text.new result }
 {
     if node < words[LEAVES] as usize {
         let w = words[node];
@@ -61,8 +54,8 @@ fn write_node(words: &[u32; WORDS], node: usize, text: &mut [u8; SIGNS], at: usi
 
 // The text of the tree whose nodes have these words.
 pub fn write_text(words: &[u32; WORDS], n: usize, text: &mut [u8; SIGNS]) -> usize
-    requires { (left : List ℕ) × (right : List ℕ) × TextRoom n left right words.now text.old }
-    ensures { (left right : List ℕ) → TextRoom n left right words.now text.old → Stands (text_of (whole_tree n left right)) 0 text.old text.new result }
+    requires { (left : List ℕ) × (right : List ℕ) × TextRoom n left right words.now }
+    ensures { (left right : List ℕ) → TextRoom n left right words.now → Stands (text_of (whole_tree n left right)) 0 text.old text.new result }
 {
     let root = n + (n - 1) - 1;
     let x = write_node(words, root, text, 0);

@@ -9,7 +9,7 @@ use Rattle.laws.proofs.TreeOf.{tree_leaves}
 use Rattle.grammar.specs.Length.{text_length}
 use Rattle.grammar.proofs.Length.{text_length_lem, text_length_most}
 use Rattle.written_tables.specs.Tied.{whole_tree}
-use Rattle.text_writer.specs.Output.{sign_places, TextRoom, Stands}
+use Rattle.text_writer.specs.Output.{TextRoom, Stands}
 use Rattle.written_tables.specs.Rows.{vector_rows}
 use Rattle.node_words.specs.Paired.{Paired}
 use Rattle.tree_text.specs.OrderedRows.{lefts, rights, left_at, right_at, rows_ordered, rows_tree}
@@ -19,14 +19,13 @@ module _ (v : List ℕ) (ok : Valid v) (few : length v ≤ 1024) where
   text_count = ap (λ (t : Tree). length (text_of t)) (rows_tree v ok few) ∙ text_length_lem (length v) (tree_of v) (tree_leaves v ok)
 
   -- the words are those of the rows, and there is room for the text
-  pub text_fits : (words text : List ℕ) → Paired (length v) (vector_rows v) words → length text ≡ sign_places → TextRoom (length v) (lefts v) (rights v) words text
-  text_fits words text P e = record {
+  pub text_fits : (words : List ℕ) → Paired (length v) (vector_rows v) words → TextRoom (length v) (lefts v) (rights v) words
+  text_fits words P = record {
     given = record {
       rows = rows_ordered v ok few;
       leaf_words = P.leaf_words;
       pair_word = λ j h. P.pair_words j h ∙ omega (arith, left_at v j, right_at v j);
     };
-    whole = e;
     room = omega (arith, text_count, text_length_most (length v) few);
   }
 

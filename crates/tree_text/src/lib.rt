@@ -10,24 +10,14 @@ ghost use Rattle.grammar.specs.Length.{text_length};
 use label_words::WORDS;
 use text_writer::SIGNS;
 
-// How many numbers below n are k or above.
-fn reaching(n: usize, k: usize) -> usize
-    ensures { result ≡ n - k }
-{
-    if n < k {
-        return 0;
-    }
-    n - k
-}
-
-// How many bytes the text of a tree with n leaves has.
+// How many bytes the text of a tree with n leaves has: so many labels have two digits, three and four.
 pub fn text_length(n: usize) -> usize
     requires { (1 ≤ n) × (n ≤ 1024) }
     ensures { result ≡ text_length n }
 {
-    let tens = reaching(n, 10);
-    let hundreds = reaching(n, 100);
-    let thousands = reaching(n, 1000);
+    let tens = n.saturating_sub(10);
+    let hundreds = n.saturating_sub(100);
+    let thousands = n.saturating_sub(1000);
     n + 3 * (n - 1) + 1 + tens + hundreds + thousands
 }
 

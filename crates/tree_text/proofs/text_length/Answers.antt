@@ -2,4 +2,4 @@ use Rattle.tree_text.specs.Long.{length_closed}
 use Rattle.tree_text.proofs.text_length.Goals as goal
 
 pub returns : goal.returns
-returns c = length_closed _ _ _ _ c.reaching-tens.ensures c.reaching-hundreds.ensures c.reaching-thousands.ensures
+returns c = length_closed _ _ _ _ c.saturating_sub-tens.ensures c.saturating_sub-hundreds.ensures c.saturating_sub-thousands.ensures
