@@ -19,7 +19,7 @@ fn put_entries(v: &[u16], out: &mut [u8], p: Pending) -> Pending
     ensures { PutEntries v.now 1 (length v.now) p out.old result out.new }
 {
     let n = v.len();
-    let first = numbers::lesser(runs::FIRST_FOUR, n);
+    let first = runs::FIRST_FOUR.min(n);
     let last = runs::fours_end(first, 0, n);
     let fours = entry_writer::put_singles(v, 1, first, out, p);
     let rest = entry_writer::put_fours(v, first, last, out, fours);

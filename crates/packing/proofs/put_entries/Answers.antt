@@ -24,9 +24,9 @@ put_singles-fours-requires c = due_fewer _ c.requires (omega (arith, c.requires.
 pub put_fours-rest-requires : goal.put_fours-rest-requires
 put_fours-rest-requires c =
     let e = c.fours_end-last.ensures in
-    let l = c.lesser-first.ensures in
+    let l = c.min-first.ensures in
     let r = c.put_singles-fours in (
-      ahead_due (on_fours c.lesser-first.result l c.requires r.auto.out r.ensures) _ (omega arith) (omega arith),
+      ahead_due (on_fours c.min-first.result l c.requires r.auto.out r.ensures) _ (omega arith) (omega arith),
       λ h. record { from = omega (arith, h); first = omega (arith, h); last = omega (arith, h) },
     )
 
@@ -35,7 +35,7 @@ put_singles-requires c =
     let e = c.fours_end-last.ensures in
     let r = c.put_singles-fours in
     let f = c.put_fours-rest in
-    ahead_due (on_rest c.lesser-first.result c.fours_end-last.result (on_fours c.lesser-first.result c.lesser-first.ensures c.requires r.auto.out r.ensures) e.0 e.1 f.auto.out f.ensures)
+    ahead_due (on_rest c.min-first.result c.fours_end-last.result (on_fours c.min-first.result c.min-first.ensures c.requires r.auto.out r.ensures) e.0 e.1 f.auto.out f.ensures)
     _ (omega (arith, e.1)) (omega arith)
 
 pub returns : goal.returns
@@ -43,5 +43,5 @@ returns c =
     let e = c.fours_end-last.ensures in
     let r = c.put_singles-fours in
     let f = c.put_fours-rest in
-    put_then (on_rest c.lesser-first.result c.fours_end-last.result (on_fours c.lesser-first.result c.lesser-first.ensures c.requires r.auto.out r.ensures) e.0 e.1 f.auto.out f.ensures).put
+    put_then (on_rest c.min-first.result c.fours_end-last.result (on_fours c.min-first.result c.min-first.ensures c.requires r.auto.out r.ensures) e.0 e.1 f.auto.out f.ensures).put
     c.put_singles.ensures
