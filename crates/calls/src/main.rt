@@ -3,138 +3,81 @@
 // 8,192 elements.
 #![tactic(auto)]
 
-mod made;
+use case_lines::{Case, hash, make};
+use case_stream::{Call, lent, list, long_number, next_call};
+use printing::{Shown, line};
 
 fn main() {
     let mut v = [0u16; 8192];
     let mut p = [0u16; 8192];
     let mut out = [0u16; 8192];
     let mut bytes = [0u8; 8192];
-    cases(&mut v, &mut p, &mut out, &mut bytes);
-}
-
-fn cases(v: &mut [u16], p: &mut [u16], out: &mut [u16], bytes: &mut [u8]) {
-    let mut index: usize = 0;
-    while index < 4294967295 {
-        if !case(index, v, p, out, bytes) {
+    for index in 0..4294967295 {
+        if case(index, &mut v, &mut p, &mut out, &mut bytes).is_none() {
             return;
         }
-        index += 1;
     }
 }
 
-// Answers whether there was a case. Of what is lent to every case, v is for a vector or rows, p for a permutation that is given
+// The next case, where there is one. Of what is lent to every case, v is for a vector or rows, p for a permutation that is given
 // or made, out for other numbers made, bytes for a text or a record that is given or made.
-fn case(index: usize, v: &mut [u16], p: &mut [u16], out: &mut [u16], bytes: &mut [u8]) -> bool {
-    let call = case_stream::call();
+fn case(
+    index: usize,
+    v: &mut [u16],
+    p: &mut [u16],
+    out: &mut [u16],
+    bytes: &mut [u8],
+) -> Option<()> {
+    let call = next_call()?;
+    let case = Case { index, call };
     match call {
-        1 => check(index, v),
-        2 => to_table(index, v, out),
-        3 => from_table(index, v, out),
-        4 => to_newick(index, v, bytes),
-        5 => newick_case::from_newick(index, bytes, out),
-        6 => pack(index, v, bytes),
-        7 => unpack(index, bytes, out),
-        8 => shuffle(index, v, p, out),
-        9 => relabel(index, v, p, out),
-        _ => false,
+        Call::Check => check(case, v),
+        Call::ToTable => make(case, v, out, trees::to_table),
+        Call::FromTable => from_table(case, v, out),
+        Call::ToNewick => make(case, v, bytes, trees::to_newick),
+        Call::FromNewick => make(case, bytes, out, trees::from_newick),
+        Call::Pack => make(case, v, bytes, trees::pack),
+        Call::Unpack => make(case, bytes, out, trees::unpack),
+        Call::Shuffle => shuffle(case, v, p, out),
+        Call::Relabel => relabel(case, v, p, out),
+        _ => None,
     }
 }
 
-fn check(index: usize, v: &mut [u16]) -> bool {
-    let given = case_stream::numbers(v);
-    let n = given.length;
-    if given.whole {
-        made::check(index, &v[..n]);
-    }
-    given.whole
+fn check(case: Case, v: &mut [u16]) -> Option<()> {
+    let v = list(v)?;
+    line(format_args!("{case} {}", Shown(trees::check(v))));
+    Some(())
 }
 
-fn to_table(index: usize, v: &mut [u16], out: &mut [u16]) -> bool {
-    let given = case_stream::numbers(v);
-    let lent = case_stream::lent_numbers(out);
-    let n = given.length;
-    let room = lent.length;
-    let whole = given.whole && lent.whole;
-    if whole {
-        made::to_table(index, &v[..n], &mut out[..room]);
-    }
-    whole
+fn from_table(case: Case, rows: &mut [u16], out: &mut [u16]) -> Option<()> {
+    let leaves = long_number();
+    let rows = list(rows)?;
+    let out = lent(out)?;
+    let given = trees::from_table(leaves, rows, out);
+    case.write(given, out);
+    Some(())
 }
 
-fn from_table(index: usize, rows: &mut [u16], out: &mut [u16]) -> bool {
-    let leaves = case_stream::long_number();
-    let given = case_stream::numbers(rows);
-    let lent = case_stream::lent_numbers(out);
-    let n = given.length;
-    let room = lent.length;
-    let whole = given.whole && lent.whole;
-    if whole {
-        made::from_table(index, leaves, &rows[..n], &mut out[..room]);
-    }
-    whole
+fn shuffle(case: Case, v: &mut [u16], new: &mut [u16], out: &mut [u16]) -> Option<()> {
+    let v = list(v)?;
+    let new = lent(new)?;
+    let out = lent(out)?;
+    let given = trees::shuffle(v, new, out);
+    line(format_args!(
+        "{case} {} {:08x} {:08x}",
+        Shown(given),
+        hash(new),
+        hash(out)
+    ));
+    Some(())
 }
 
-fn to_newick(index: usize, v: &mut [u16], out: &mut [u8]) -> bool {
-    let given = case_stream::numbers(v);
-    let lent = case_stream::lent_bytes(out);
-    let n = given.length;
-    let room = lent.length;
-    let whole = given.whole && lent.whole;
-    if whole {
-        made::to_newick(index, &v[..n], &mut out[..room]);
-    }
-    whole
-}
-
-fn pack(index: usize, v: &mut [u16], out: &mut [u8]) -> bool {
-    let given = case_stream::numbers(v);
-    let lent = case_stream::lent_bytes(out);
-    let n = given.length;
-    let room = lent.length;
-    let whole = given.whole && lent.whole;
-    if whole {
-        made::pack(index, &v[..n], &mut out[..room]);
-    }
-    whole
-}
-
-fn unpack(index: usize, record: &mut [u8], out: &mut [u16]) -> bool {
-    let given = case_stream::bytes(record);
-    let lent = case_stream::lent_numbers(out);
-    let n = given.length;
-    let room = lent.length;
-    let whole = given.whole && lent.whole;
-    if whole {
-        made::unpack(index, &record[..n], &mut out[..room]);
-    }
-    whole
-}
-
-fn shuffle(index: usize, v: &mut [u16], new: &mut [u16], out: &mut [u16]) -> bool {
-    let given = case_stream::numbers(v);
-    let first = case_stream::lent_numbers(new);
-    let second = case_stream::lent_numbers(out);
-    let n = given.length;
-    let room = first.length;
-    let space = second.length;
-    let whole = given.whole && first.whole && second.whole;
-    if whole {
-        made::shuffle(index, &v[..n], &mut new[..room], &mut out[..space]);
-    }
-    whole
-}
-
-fn relabel(index: usize, v: &mut [u16], p: &mut [u16], out: &mut [u16]) -> bool {
-    let vector = case_stream::numbers(v);
-    let permutation = case_stream::numbers(p);
-    let lent = case_stream::lent_numbers(out);
-    let n = vector.length;
-    let m = permutation.length;
-    let room = lent.length;
-    let whole = vector.whole && permutation.whole && lent.whole;
-    if whole {
-        made::relabel(index, &v[..n], &p[..m], &mut out[..room]);
-    }
-    whole
+fn relabel(case: Case, v: &mut [u16], p: &mut [u16], out: &mut [u16]) -> Option<()> {
+    let v = list(v)?;
+    let p = list(p)?;
+    let out = lent(out)?;
+    let given = trees::relabel(v, p, out);
+    case.write(given, out);
+    Some(())
 }

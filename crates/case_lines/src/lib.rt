@@ -2,62 +2,70 @@
 // 32-bit FNV-1a.
 #![tactic(auto)]
 
+use case_stream::{Call, Element};
+use printing::{Shown, line};
 use rules::Answer;
+use std::fmt;
+
+/// A case: how many stood before it in the stream, and its call.
+#[derive(Clone, Copy)]
+pub struct Case {
+    pub index: usize,
+    pub call: Call,
+}
 
 // The index and the call's number, with which every line begins.
-pub fn begin(index: usize, call: usize) {
-    printing::number(index);
-    printing::byte(b' ');
-    printing::number(call);
-    printing::byte(b' ');
-}
-
-// The same, and the answer.
-pub fn answer(index: usize, call: usize, given: Answer) {
-    begin(index, call);
-    printing::answer(given);
-}
-
-pub fn hash_bytes(xs: &[u8]) {
-    let mut h: u64 = 2166136261;
-    let mut k: usize = 0;
-    while k < xs.len() {
-        h = more(h, wide(xs[k]));
-        k += 1;
+impl fmt::Display for Case {
+    fn fmt<W: fmt::Write>(&self, f: &mut fmt::Formatter<W>) -> fmt::Result {
+        let index = self.index;
+        let number = self.call as u8;
+        write!(f, "{index} {number}")
     }
-    hash(h);
 }
 
-// A number counts as two bytes, least significant first.
-pub fn hash_numbers(xs: &[u16]) {
-    let mut h: u64 = 2166136261;
-    let mut k: usize = 0;
-    while k < xs.len() {
-        let x = xs[k];
-        h = more(more(h, low(x)), high(x));
-        k += 1;
+impl Case {
+    /// The line of a case whose answer comes with one buffer.
+    pub fn write<T: Hashed>(self, given: Answer, out: &[T]) {
+        line(format_args!("{self} {} {:08x}", Shown(given), hash(out)));
     }
-    hash(h);
 }
 
-fn hash(h: u64) {
-    printing::byte(b' ');
-    io::print_hex(1, h, 8);
+/// An element of a buffer that is hashed.
+pub trait Hashed: Copy {
+    /// The hash with the bytes of this element more, the least significant first.
+    fn behind(self, hash: u32) -> u32;
 }
 
-// The hash with one byte more, in 32 bits.
-fn more(h: u64, byte: u64) -> u64 {
-    ((h ^ byte) % 4294967296) * 16777619 % 4294967296
+impl Hashed for u8 {
+    fn behind(self, hash: u32) -> u32 {
+        (hash ^ u32::from(self)).wrapping_mul(16777619)
+    }
 }
 
-fn wide(b: u8) -> u64 {
-    b as u64
+impl Hashed for u16 {
+    fn behind(self, hash: u32) -> u32 {
+        let [low, high] = self.to_le_bytes();
+        high.behind(low.behind(hash))
+    }
 }
 
-fn low(x: u16) -> u64 {
-    x as u64 % 256
+/// The hash of a buffer.
+pub fn hash<T: Hashed>(xs: &[T]) -> u32 {
+    xs.iter().fold(2166136261, |hash, x| x.behind(hash))
 }
 
-fn high(x: u16) -> u64 {
-    x as u64 / 256
+/// The case of a call that makes one list of another: it is made with the very buffers that the case lends, and its line is
+/// written. None where a part of the case is not whole.
+pub fn make<S: Element, T: Element + Hashed, F: FnOnce(&[S], &mut [T]) -> Answer>(
+    case: Case,
+    given: &mut [S],
+    made: &mut [T],
+    call: F,
+) -> Option<()>
+    requires { F.IsAlwaysCallable call }
+{
+    let input = case_stream::list(given)?;
+    let out = case_stream::lent(made)?;
+    case.write(call(input, out), out);
+    Some(())
 }

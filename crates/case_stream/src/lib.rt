@@ -1,194 +1,113 @@
-// The parts of a case, read from standard input into lent buffers. Numbers stand least significant byte first.
+// The parts of a case, read from standard input into lent buffers. Numbers stand least significant byte first. A part is None where
+// the input ends before it does, and where there is no room for it.
 #![tactic(auto)]
 
-ghost use Rattle.std.specs.Prelude.{◌*◌, ◌<◌, ◌≤◌, length};
-ghost use Rattle.io.specs.Counts.{IsPrefixLen};
-
-// A list or a buffer to lend, at the start of what was lent for it: its length, and whether it is whole. It is not where the
-// input ends before it does, and where there is no room for it.
-#[derive(Drop)]
-pub struct Part {
-    pub length: usize,
-    pub whole: bool,
+/// The calls that have cases, each with its number in the stream and on the line of a case.
+#[derive(Clone, Copy)]
+pub enum Call {
+    Check = 1,
+    ToTable = 2,
+    FromTable = 3,
+    ToNewick = 4,
+    FromNewick = 5,
+    Pack = 6,
+    Unpack = 7,
+    Shuffle = 8,
+    Relabel = 9,
+    WriteArchive = 10,
+    ReadTree = 11,
+    View = 12,
 }
 
-// Fills xs, and answers whether the input had that many bytes.
-fn read(xs: &mut [u8]) -> bool {
-    io::read_full(0, xs) == xs.len()
+const CALLS: [Call; 12] = [
+    Call::Check,
+    Call::ToTable,
+    Call::FromTable,
+    Call::ToNewick,
+    Call::FromNewick,
+    Call::Pack,
+    Call::Unpack,
+    Call::Shuffle,
+    Call::Relabel,
+    Call::WriteArchive,
+    Call::ReadTree,
+    Call::View,
+];
+
+/// An element of a list in a stream: one byte, or a number of two.
+pub trait Element: Copy {
+    /// Fills xs, where the input has so many elements.
+    fn read(xs: &mut [Self]) -> Option<()>;
+
+    /// The element that a number of two bytes is where it is lent: of a byte the less significant one.
+    fn of(x: u16) -> Self;
 }
 
-// The number of a call, or 0 where the input ends.
-pub fn call() -> u8 {
-    let mut one = [0u8; 1];
-    read(&mut one);
-    one[0]
-}
-
-fn wide(b: u8) -> u64
-    ensures { result < 256 }
-{
-    b as u64
-}
-
-// The number that stands in at most 8 bytes.
-fn value(xs: &[u8]) -> u64 {
-    let mut x: u64 = 0;
-    let mut k = xs.len();
-    while 0 < k {
-        k -= 1;
-        x = x % 72057594037927936 * 256 + wide(xs[k]);
+impl Element for u8 {
+    fn read(xs: &mut [u8]) -> Option<()> {
+        (io::read_full(0, xs) == xs.len()).then_some(())
     }
-    x
+
+    fn of(x: u16) -> u8 {
+        x.to_le_bytes()[0]
+    }
 }
 
-// A leaf count, or the number of a tree. Where the input ends it is any number, and what follows is not whole.
+impl Element for u16 {
+    fn read(xs: &mut [u16]) -> Option<()> {
+        let mut pairs = [0u8; 16384];
+        let bytes = pairs.get_mut(..2 * xs.len())?;
+        u8::read(bytes)?;
+        for (x, pair) in xs.iter_mut().zip(bytes.chunks_exact(2)) {
+            *x = u16::from_le_bytes([pair[0], pair[1]]);
+        }
+        Some(())
+    }
+
+    fn of(x: u16) -> u16 {
+        x
+    }
+}
+
+/// The call of the next case, where the input has one.
+pub fn next_call() -> Option<Call> {
+    let mut one = [0u8; 1];
+    u8::read(&mut one)?;
+    let number = one[0];
+    CALLS.iter().copied().find(|call| *call as u8 == number)
+}
+
+/// A leaf count, or the number of a tree. Where the input ends it is any number, and what follows is not whole.
 pub fn long_number() -> usize {
     let mut eight = [0u8; 8];
-    read(&mut eight);
-    value(&eight) as usize
+    io::read_full(0, &mut eight);
+    usize::from_le_bytes(eight)
 }
 
-// A length, or one that no buffer has where the input ends.
-fn length() -> usize {
+// The room for a list at the start of xs, of the length that the input has.
+fn room<T>(xs: &mut [T]) -> Option<&mut [T]> {
     let mut four = [0u8; 4];
-    if !read(&mut four) {
-        return 18446744073709551615;
-    }
-    value(&four) as usize
+    u8::read(&mut four)?;
+    let n = u32::from_le_bytes(four) as usize;
+    xs.get_mut(..n)
 }
 
-// A text or a record.
-pub fn bytes(xs: &mut [u8]) -> Part
-    ensures { IsPrefixLen result.length xs.new }
-{
-    let n = length();
-    if xs.len() < n {
-        return Part {
-            length: 0,
-            whole: false,
-        };
-    }
-    let all = read(&mut xs[..n]);
-    Part {
-        length: n,
-        whole: all,
-    }
+/// A list that is given: a vector, rows, a permutation, a text or a record, at the start of what is lent for it.
+pub fn list<T: Element>(xs: &mut [T]) -> Option<&mut [T]> {
+    let given = room(xs)?;
+    T::read(given)?;
+    Some(given)
 }
 
-// A vector, rows or a permutation.
-pub fn numbers(xs: &mut [u16]) -> Part
-    ensures { IsPrefixLen result.length xs.new }
-{
-    let n = length();
-    if xs.len() < n {
-        return Part {
-            length: 0,
-            whole: false,
-        };
-    }
-    let all = read_numbers(&mut xs[..n]);
-    Part {
-        length: n,
-        whole: all,
-    }
-}
-
-fn read_numbers(xs: &mut [u16]) -> bool {
-    let mut pairs = [0u8; 16384];
-    read_pairs(&mut pairs, xs)
-}
-
-fn read_pairs(pairs: &mut [u8], xs: &mut [u16]) -> bool {
-    let n = xs.len();
-    if pairs.len() / 2 < n {
-        return false;
-    }
-    let all = read(&mut pairs[..2 * n]);
-    from_pairs(pairs, xs);
-    all
-}
-
-fn number(low: u8, high: u8) -> u16 {
-    low as u16 + 256 * (high as u16)
-}
-
-// The numbers that stand in pairs of bytes.
-fn from_pairs(pairs: &[u8], xs: &mut [u16])
-    requires { length xs.old * 2 ≤ length pairs.now }
-{
-    let mut k: usize = 0;
-    while k < xs.len() {
-        xs[k] = number(pairs[2 * k], pairs[2 * k + 1]);
-        k += 1;
-    }
-}
-
-// Numbers to lend: each is 31 more than the one before it, the first is given.
-pub fn lent_numbers(xs: &mut [u16]) -> Part
-    ensures { IsPrefixLen result.length xs.new }
-{
-    let n = length();
-    if xs.len() < n {
-        return Part {
-            length: 0,
-            whole: false,
-        };
-    }
-    let all = fill_numbers(&mut xs[..n]);
-    Part {
-        length: n,
-        whole: all,
-    }
-}
-
-// Bytes to lend, the same modulo 256.
-pub fn lent_bytes(xs: &mut [u8]) -> Part
-    ensures { IsPrefixLen result.length xs.new }
-{
-    let n = length();
-    if xs.len() < n {
-        return Part {
-            length: 0,
-            whole: false,
-        };
-    }
-    let all = fill_bytes(&mut xs[..n]);
-    Part {
-        length: n,
-        whole: all,
-    }
-}
-
-fn fill_numbers(xs: &mut [u16]) -> bool {
+/// A buffer to lend, at the start of what is lent for it: each of its numbers is 31 more than the one before it, the first is given.
+pub fn lent<T: Element>(xs: &mut [T]) -> Option<&mut [T]> {
+    let out = room(xs)?;
     let mut two = [0u8; 2];
-    let all = read(&mut two);
-    rise_numbers(number(two[0], two[1]), xs);
-    all
-}
-
-fn fill_bytes(xs: &mut [u8]) -> bool {
-    let mut two = [0u8; 2];
-    let all = read(&mut two);
-    rise_bytes(two[0], xs);
-    all
-}
-
-fn rise_numbers(first: u16, xs: &mut [u16]) {
-    let mut x = first;
-    let mut k: usize = 0;
-    while k < xs.len() {
-        xs[k] = x;
-        x = std::num::wrapping_add_u16(x, 31);
-        k += 1;
+    u8::read(&mut two)?;
+    let mut x = u16::from_le_bytes(two);
+    for place in out.iter_mut() {
+        *place = T::of(x);
+        x = x.wrapping_add(31);
     }
-}
-
-fn rise_bytes(first: u8, xs: &mut [u8]) {
-    let mut x = first;
-    let mut k: usize = 0;
-    while k < xs.len() {
-        xs[k] = x;
-        x = std::num::wrapping_add_u8(x, 31);
-        k += 1;
-    }
+    Some(out)
 }

@@ -1,22 +1,14 @@
 // Every vector for n from 1 to 6, the vectors of one n in the order of their entries from the front.
 #![tactic(auto)]
 
-ghost use Rattle.std.specs.Prelude.{◌≤◌, ◌≡◌, length};
-
-fn wide(x: u16) -> usize
-    ensures { result ≡ x }
-{
-    x as usize
-}
+ghost use Rattle.std.specs.Prelude.{◌≤◌, length};
 
 // Makes v the next vector, and answers true; or makes it the first, all zeros, where it was the last.
 fn next(v: &mut [u16]) -> bool
     requires { length v.old ≤ 6 }
 {
-    let mut i = v.len();
-    while 1 < i {
-        i -= 1;
-        if wide(v[i]) < 2 * (i - 1) {
+    for i in (1..v.len()).rev() {
+        if usize::from(v[i]) < 2 * (i - 1) {
             v[i] += 1;
             return true;
         }
@@ -25,33 +17,26 @@ fn next(v: &mut [u16]) -> bool
     false
 }
 
-// The lines of every vector of so many entries; v comes as the first of them. No n has more than 945, which are those of 6.
-fn vectors(v: &mut [u16])
-    requires { length v.old ≤ 6 }
+// The lines of every vector of N entries. No N has more than 945, which are those of 6.
+fn vectors<const N: usize>()
+    requires { N ≤ 6 }
 {
-    let mut left: u32 = 945;
-    while 0 < left {
-        call_lines::there_and_back(v);
-        call_lines::by_archive(v);
-        call_lines::shuffle(v);
-        if !next(v) {
+    let mut v = [0u16; N];
+    for _ in 0..945 {
+        call_lines::there_and_back(&v);
+        call_lines::by_archive(&v);
+        call_lines::shuffle(&v);
+        if !next(&mut v) {
             return;
         }
-        left -= 1;
     }
 }
 
 fn main() {
-    let mut one = [0u16; 1];
-    let mut two = [0u16; 2];
-    let mut three = [0u16; 3];
-    let mut four = [0u16; 4];
-    let mut five = [0u16; 5];
-    let mut six = [0u16; 6];
-    vectors(&mut one);
-    vectors(&mut two);
-    vectors(&mut three);
-    vectors(&mut four);
-    vectors(&mut five);
-    vectors(&mut six);
+    vectors::<1>();
+    vectors::<2>();
+    vectors::<3>();
+    vectors::<4>();
+    vectors::<5>();
+    vectors::<6>();
 }

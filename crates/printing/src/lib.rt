@@ -1,85 +1,104 @@
-// Lists, bytes and answers on standard output, in the notation of the second program. A write that fails is passed over.
+// Answers, lists and bytes as they are printed on standard output, in the notation of the second program.
 #![tactic(auto)]
 
 use rules::Answer;
+use std::fmt;
+use std::fmt::Write;
 
-// The digits of a number.
-pub fn number(x: usize) {
-    io::print_decimal(1, x as u64);
+// Standard output. A write that fails is passed over. std's own `print!` would call C's errno besides its read and write: one function more
+// to be trusted.
+#[derive(Clone, Copy)]
+struct Output;
+
+impl Write for Output {
+    fn write_str(&mut self, s: &str) -> fmt::Result {
+        io::write_all(1, s.as_bytes());
+        Ok(())
+    }
 }
 
-// One byte.
+/// An answer: `done K` or `refused N P`.
+#[derive(Clone, Copy)]
+pub struct Shown(pub Answer);
+
+impl fmt::Display for Shown {
+    fn fmt<W: Write>(&self, f: &mut fmt::Formatter<W>) -> fmt::Result {
+        match self.0 {
+            Answer::Done(count) => write!(f, "done {count}"),
+            Answer::Refused(why) => {
+                let number = refusal_numbers::number_of(why.kind);
+                let place = why.place;
+                write!(f, "refused {number} {place}")
+            }
+        }
+    }
+}
+
+/// Numbers with commas between them, or - where there are none, or # and how many there are where these are more than any vector has.
+#[derive(Clone, Copy)]
+pub struct Listed<'a>(pub &'a [u16]);
+
+impl<'a> fmt::Display for Listed<'a> {
+    fn fmt<W: Write>(&self, f: &mut fmt::Formatter<W>) -> fmt::Result {
+        let count = self.0.len();
+        if 1024 < count {
+            return write!(f, "#{count}");
+        }
+        let Some((first, others)) = self.0.split_first() else {
+            return write!(f, "-");
+        };
+        write!(f, "{first}")?;
+        for x in others {
+            write!(f, ",{x}")?;
+        }
+        Ok(())
+    }
+}
+
+/// A text as it stands, or - where it is empty.
+#[derive(Clone, Copy)]
+pub struct Text<'a>(pub &'a [u8]);
+
+impl<'a> fmt::Display for Text<'a> {
+    fn fmt<W: Write>(&self, f: &mut fmt::Formatter<W>) -> fmt::Result {
+        if self.0.is_empty() {
+            return write!(f, "-");
+        }
+        for b in self.0 {
+            let sign = char::from(*b);
+            write!(f, "{sign}")?;
+        }
+        Ok(())
+    }
+}
+
+/// Bytes as two hexadecimal digits each, or - where there are none.
+#[derive(Clone, Copy)]
+pub struct Hex<'a>(pub &'a [u8]);
+
+impl<'a> fmt::Display for Hex<'a> {
+    fn fmt<W: Write>(&self, f: &mut fmt::Formatter<W>) -> fmt::Result {
+        if self.0.is_empty() {
+            return write!(f, "-");
+        }
+        for b in self.0 {
+            write!(f, "{b:02X}")?;
+        }
+        Ok(())
+    }
+}
+
+/// One byte on standard output.
 pub fn byte(b: u8) {
-    let mut one = [0u8; 1];
-    one[0] = b;
-    io::write_all(1, &one);
+    io::write_all(1, &[b]);
 }
 
-fn wide(x: u16) -> u64 {
-    x as u64
-}
-
-// A list of numbers with commas between them, or - where it is empty.
-pub fn numbers(xs: &[u16]) {
-    if xs.len() == 0 {
-        byte(b'-');
-        return;
-    }
-    let mut k: usize = 0;
-    while k < xs.len() {
-        if 0 < k {
-            byte(b',');
-        }
-        io::print_decimal(1, wide(xs[k]));
-        k += 1;
-    }
-}
-
-// A text as it stands, or - where it is empty.
-pub fn text(s: &[u8]) {
-    if s.len() == 0 {
-        byte(b'-');
-        return;
-    }
-    io::write_all(1, s);
-}
-
-fn digit(x: u8) -> u8 {
-    let d = x % 16;
-    if d < 10 {
-        return 48 + d;
-    }
-    55 + d
-}
-
-// Bytes as two hexadecimal digits each, or - where there are none.
-pub fn bytes(s: &[u8]) {
-    if s.len() == 0 {
-        byte(b'-');
-        return;
-    }
-    let mut k: usize = 0;
-    while k < s.len() {
-        let b = s[k];
-        byte(digit(b / 16));
-        byte(digit(b));
-        k += 1;
-    }
-}
-
-// `done K` or `refused N P`.
+/// The text of an answer on standard output, where its line goes on.
 pub fn answer(given: Answer) {
-    match given {
-        Answer::Done(count) => {
-            io::write_all(1, b"done ");
-            number(count);
-        }
-        Answer::Refused(why) => {
-            let kind = why.kind;
-            io::write_all(1, b"refused ");
-            io::print_decimal(1, refusal_numbers::number_of(kind));
-            byte(b' ');
-            number(why.place);
-        }
-    }
+    let _ = write!(Output, "{}", Shown(given));
+}
+
+/// A line on standard output.
+pub fn line<D: fmt::Display + Drop>(text: D) {
+    let _ = writeln!(Output, "{text}");
 }

@@ -30,18 +30,12 @@ fn refused_vector(v: &[u16], p: &[u16]) {
     call_lines::relabel(v, p);
 }
 
-fn identity(p: &mut [u16]) {
-    let mut k: usize = 0;
-    while k < p.len() {
-        p[k] = (k % 65536) as u16;
-        k += 1;
-    }
-}
-
 fn refused_vectors() {
     let zeros = [0u16; 1025];
     let mut numbers = [0u16; 1025];
-    identity(&mut numbers);
+    for leaf in 0..1025 {
+        numbers[leaf] = leaf as u16;
+    }
     refused_vector(&[0, 1], &[0, 1]);
     refused_vector(&[0, 0, 3], &[0, 1, 2]);
     refused_vector(&[], &[]);
@@ -81,14 +75,14 @@ fn blanks() {
 fn archives() {
     let mut archive = [0u8; 6];
     let two = call_lines::write_archive(4, &[0, 0, 1, 4, 0, 0, 2, 1], &mut archive);
-    read_and_view(&archive[..two], 0);
-    read_and_view(&archive[..two], 1);
-    read_and_view(&archive[..two], 2);
+    read_and_view(two, 0);
+    read_and_view(two, 1);
+    read_and_view(two, 2);
     let none = call_lines::write_archive(4, &[], &mut archive);
-    read_and_view(&archive[..none], 0);
+    read_and_view(none, 0);
     let three = call_lines::write_archive(1, &[0, 0, 0], &mut archive);
-    read_and_view(&archive[..three], 2);
-    call_lines::read_tree(&archive[..three], 3);
+    read_and_view(three, 2);
+    call_lines::read_tree(three, 3);
 }
 
 fn read_and_view(archive: &[u8], tree: usize) {

@@ -2,27 +2,25 @@
 // of a case is not whole. A text that is given may have more bytes than any that is read.
 #![tactic(auto)]
 
+use case_lines::{Case, make};
+use case_stream::{Call, next_call};
+
 fn main() {
     let mut text = [0u8; 65600];
     let mut numbers = [0u16; 8192];
-    cases(&mut text, &mut numbers);
-}
-
-fn cases(text: &mut [u8], numbers: &mut [u16]) {
-    let mut index: usize = 0;
-    while index < 4294967295 {
-        if !case(index, text, numbers) {
+    for index in 0..4294967295 {
+        if case(index, &mut text, &mut numbers).is_none() {
             return;
         }
-        index += 1;
     }
 }
 
-// Answers whether there was a case.
-fn case(index: usize, text: &mut [u8], numbers: &mut [u16]) -> bool {
-    let call = case_stream::call();
+// The next case, where there is one.
+fn case(index: usize, text: &mut [u8], numbers: &mut [u16]) -> Option<()> {
+    let call = next_call()?;
+    let case = Case { index, call };
     match call {
-        5 => newick_case::from_newick(index, text, numbers),
-        _ => false,
+        Call::FromNewick => make(case, text, numbers, trees::from_newick),
+        _ => None,
     }
 }
