@@ -7,14 +7,14 @@ use Rattle.std.proofs.Math.ListN.{drop, get_or}
 use Rattle.std.proofs.lemmas.List.{length-map}
 use Rattle.std.proofs.Math.Seq.{drop-cons}
 use Rattle.std.proofs.lemmas.Bool.{eqb-false}
-use Rattle.rules.specs.Vector.{entry, Valid}
+use Rattle.rules.specs.Vector.{entry, Valid, Vector}
 use Rattle.rules.specs.Building.{Merge}
 use Rattle.rules.specs.Table.{Row, rows_from}
 use Rattle.merging.specs.Insertion.{pairs_of, pairs}
 use Rattle.merging.proofs.Insertion.{valid_bounded}
 use Rattle.merging.proofs.Greedy.{under_pairs}
 use Rattle.merging.proofs.Named.{rising}
-use Rattle.merges.specs.Room.{list_room}
+use Rattle.merges.specs.Built.{MergesOf}
 use Rattle.merges.specs.Held.{held, merge_at}
 use Rattle.written_tables.specs.Rows.{vector_rows, Inside}
 use Rattle.written_tables.proofs.Rows.{inside, inside_drop, inside_at, rows_length, rows_cong}
@@ -148,20 +148,24 @@ unfolding pairs
 pairs_inside v ok =
     inside (length v) (pairs_of (entry v) (length v)) (under_pairs (entry v) (length v)) (rising (entry v) (length v) (valid_bounded v ok))
 
-pub before_rows : {v list small : List ℕ} {start : ℕ} {number : List ℕ} → Valid v → length v ≤ 1024 → start + (length v - 1) ≤ list_room
-    → map (held small) (take (length v - 1) (drop start list)) ≡ pairs v → length list ≡ list_room → length small ≡ 1024 → length number ≡ 1024
+pub before_rows : {v list small : List ℕ} {start : ℕ} {number : List ℕ} → Vector v → MergesOf v list small start → length number ≡ 1024
     → ((c : ℕ) → c < length v → get_or number c 0 ≡ c) → BeforeRows list small start (length v) number
 unfolding held_merges
-before_rows {v} ok few room e ll ls ln itself = record {
-  some = ok.some_leaf;
-  few = few;
-  in_list = omega arith;
-  in_small = omega arith;
-  in_number = omega arith;
-  names = rw e (pairs_inside v ok);
-  itself = itself;
-}
+before_rows {v} V M ln itself =
+    let few = V.few in
+    let size = M.size in
+    let size_small = M.size_small in
+    let inside = M.inside in
+    record {
+      some = V.valid.some_leaf;
+      few = few;
+      in_list = omega arith;
+      in_small = omega arith;
+      in_number = omega arith;
+      names = rw M.listed (pairs_inside v V.valid);
+      itself = itself;
+    }
 
-pub rows_of_pairs : (v list small : List ℕ) (start : ℕ) → map (held small) (take (length v - 1) (drop start list)) ≡ pairs v → held_rows list small start (length v) ≡ vector_rows v
+pub rows_of_merges : {v list small : List ℕ} {start : ℕ} → MergesOf v list small start → held_rows list small start (length v) ≡ vector_rows v
 unfolding held_rows held_merges
-rows_of_pairs v list small start e = rw e
+rows_of_merges M = rw M.listed

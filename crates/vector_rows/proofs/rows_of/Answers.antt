@@ -3,5 +3,5 @@ use mathlib.Core.Path.{◌∙◌}
 use Rattle.vector_rows.proofs.rows_of.Goals as goal
 
 pub returns : goal.returns
-returns c = let held = c.held_merges-start.ensures in
+returns c = let held = c.held_merges.ensures in
     let written = c.children.ensures in record { left_after = written.left_after ∙ rw held.1; right_after = written.right_after ∙ rw held.1 }
