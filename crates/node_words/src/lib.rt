@@ -9,35 +9,25 @@ ghost use Rattle.written_tables.specs.Rows.{vector_rows};
 ghost use Rattle.node_words.specs.Paired.{Paired};
 
 use label_words::WORDS;
-use numbers::wide;
+use merges::{Merges, ROOM};
 
 // The word of a pair, by its two children.
 fn pair_word(first: u16, second: u16) -> u32
     ensures { result ≡ first + second * 65536 }
 {
-    first as u32 + second as u32 * 65536
+    u32::from(first) + u32::from(second) * 65536
 }
 
-// The words of the rows of the merges that list and small hold, behind those of n leaves; number has the node of each name.
-fn pair_words(
-    list: &[u16],
-    small: &[u16],
-    start: usize,
-    n: usize,
-    number: &mut [u16],
-    words: &mut [u32],
-)
-    requires { BeforeRows list.now small.now start n number.old × LeafWords n words.old }
-    ensures { Paired n (held_rows list.now small.now start n) words.new }
+// The words of the rows of n-1 merges, behind those of n leaves; number has the node of each name.
+fn pair_words(merges: &Merges, n: usize, number: &mut [u16], words: &mut [u32])
+    requires { BeforeRows merges.now.list merges.now.small merges.now.start n number.old × LeafWords n words.old }
+    ensures { Paired n (held_rows merges.now.list merges.now.small merges.now.start n) words.new }
 {
-    let last = n - 1;
-    let mut t: usize = 0;
-    while t < last {
-        let b = wide(list[start + t]);
-        let a = wide(small[b]);
+    for t in 0..n - 1 {
+        let b = usize::from(merges.list[merges.start + t]);
+        let a = usize::from(merges.small[b]);
         words[n + t] = pair_word(number[a], number[b]);
         number[a] = (n + t) as u16;
-        t += 1;
     }
 }
 
@@ -46,11 +36,14 @@ pub fn tree_words(v: &[u16], words: &mut [u32; WORDS])
     requires { Vector v.now }
     ensures { Paired (length v.now) (vector_rows v.now) words.new }
 {
-    let mut list = [0u16; merges::ROOM];
-    let mut small = [0u16; 1024];
+    let mut merges = Merges {
+        list: [0; ROOM],
+        small: [0; 1024],
+        start: 0,
+    };
     let mut number = [0u16; 1024];
     lists::number_leaves(&mut number, v.len());
-    let start = merges::merges(v, &mut list, &mut small);
+    merges.fill(v);
     label_words::leaf_words(words, v.len());
-    pair_words(&list, &small, start, v.len(), &mut number, words);
+    pair_words(&merges, v.len(), &mut number, words);
 }

@@ -13,15 +13,12 @@ fn copy_rows(n: usize, left: &[u16], right: &[u16], out: &mut [u16])
     requires { (1 ≤ n) × (n ≤ 1024) × (n - 1 ≤ length left.now) × (n - 1 ≤ length right.now) × (3 * (n - 1) ≤ length out.old) }
     ensures { out.new ≡ flat (child_rows n left.now right.now) ++ drop (3 * (n - 1)) out.old }
 {
-    let last = n - 1;
     let mut parent = n as u16;
-    let mut t: usize = 0;
-    while t < last {
+    for t in 0..n - 1 {
         out[3 * t] = left[t];
         out[3 * t + 1] = right[t];
         out[3 * t + 2] = parent;
         parent += 1;
-        t += 1;
     }
 }
 
