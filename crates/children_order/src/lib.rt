@@ -6,34 +6,20 @@ ghost use Rattle.rules.specs.Order.{vector_of};
 ghost use Rattle.rules.specs.Table.{Row, table_tree};
 ghost use Rattle.children_order.specs.Children.{Children, Added};
 
-use numbers::wide;
+use chains::Chains;
 
 // Adds the rows of n leaves with these children, which are known to be accepted.
-fn add_children(
-    n: usize,
-    left: &[u16],
-    right: &[u16],
-    names: &mut [u16],
-    lows: &mut [u16],
-    small: &mut [u16],
-    next: &mut [u16],
-    last: &mut [u16],
-)
+fn add_children(n: usize, left: &[u16], right: &[u16], chains: &mut Chains)
     requires le_n { 1 ≤ n }
-    requires added { Added n left.now right.now 0 names.old lows.old small.old next.old last.old }
-    ensures { Added n left.now right.now (n - 1) names.new lows.new small.new next.new last.new }
+    requires added { Added n left.now right.now 0 chains.old.names chains.old.lows chains.old.small chains.old.next chains.old.last }
+    ensures { Added n left.now right.now (n - 1) chains.new.names chains.new.lows chains.new.small chains.new.next chains.new.last }
 {
-    let count = n - 1;
-    let mut t: usize = 0;
-    while t < count {
-        let l = wide(left[t]);
-        let r = wide(right[t]);
-        let x = wide(names[l]);
-        let y = wide(names[r]);
-        let a = numbers::lesser(x, y);
-        let i = numbers::greater(x, y);
-        chains::add_pair(names, lows, small, next, last, n + t, l, r, a, i);
-        t += 1;
+    for t in 0..n - 1 {
+        let l = usize::from(left[t]);
+        let r = usize::from(right[t]);
+        let x = usize::from(chains.names[l]);
+        let y = usize::from(chains.names[r]);
+        chains.add_pair(n + t, l, r, x.min(y), x.max(y));
     }
 }
 
@@ -43,14 +29,7 @@ pub fn children_vector(n: usize, left: &[u16], right: &[u16], vector: &mut [u16]
     requires children { (rs : List Row) × Children n left.now right.now rs }
     ensures { (rs : List Row) → Children n left.now right.now rs → vector.new ≡ vector_of (table_tree n rs) ++ drop n vector.old }
 {
-    let mut names = [0u16; 2048];
-    let mut lows = [chains::NO_KEY; 2048];
-    let mut small = [0u16; 1024];
-    let mut next = [0u16; 1024];
-    let mut last = [0u16; 1024];
-    lists::number_leaves(&mut names, n);
-    add_children(
-        n, left, right, &mut names, &mut lows, &mut small, &mut next, &mut last,
-    );
-    order::vector_of(n, &small, &next, &last, vector);
+    let mut chains = Chains::of_leaves(n);
+    add_children(n, left, right, &mut chains);
+    order::vector_of(n, &chains, vector);
 }

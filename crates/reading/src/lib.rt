@@ -4,42 +4,29 @@
 ghost use Rattle.reading.specs.Reading.{Reads};
 ghost use Rattle.reading.specs.Told.{HasRead};
 
-use numbers::wide;
-use row_checks::{Found, MARK};
+use chains::Chains;
+use row_checks::{MARK, RowFault};
 
-/// Reads the rows of a table with n leaves: the first that is refused, or none, and then the arrays hold the tree.
+/// Reads the rows of a table with n leaves: the first that is refused, or none, and then the chains hold the tree.
 /// A sum of two names tells whether one is a mark, since the others are below 1024.
-pub fn read_rows(
-    n: usize,
-    rows: &[u16],
-    names: &mut [u16],
-    lows: &mut [u16],
-    small: &mut [u16],
-    next: &mut [u16],
-    last: &mut [u16],
-) -> Found
-    requires { Reads n rows.now 0 names.old lows.old small.old next.old last.old }
-    ensures { HasRead n rows.now names.new lows.new small.new next.new last.new result }
+pub fn read_rows(n: usize, rows: &[u16], chains: &mut Chains) -> Result<(), RowFault>
+    requires { Reads n rows.now 0 chains.old.names chains.old.lows chains.old.small chains.old.next chains.old.last }
+    ensures { HasRead n rows.now chains.new.names chains.new.lows chains.new.small chains.new.next chains.new.last result }
 {
-    let count = n - 1;
-    let mut t: usize = 0;
-    while t < count {
+    for t in 0..n - 1 {
         let p = n + t;
-        let l = wide(rows[3 * t]);
-        let r = wide(rows[3 * t + 1]);
-        let parent = wide(rows[3 * t + 2]);
-        if row_checks::misplaced(p, l, r, parent) {
-            return row_checks::misplacement(p, parent, t);
-        }
-        let x = row_checks::take_name(names, l);
-        let y = row_checks::take_name(names, r);
+        let l = usize::from(rows[3 * t]);
+        let r = usize::from(rows[3 * t + 1]);
+        let parent = usize::from(rows[3 * t + 2]);
+        row_checks::check_numbers(t, p, l, r, parent)?;
+        let x = row_checks::take_name(&mut chains.names, l);
+        let y = row_checks::take_name(&mut chains.names, r);
         let s = x + y;
-        if MARK as usize <= s {
-            return Found::NamedBefore(t);
+        if usize::from(MARK) <= s {
+            return Err(RowFault::NamedBefore(t));
         }
-        let i = numbers::greater(x, y);
-        chains::add_pair(names, lows, small, next, last, p, l, r, s - i, i);
-        t += 1;
+        let i = x.max(y);
+        chains.add_pair(p, l, r, s - i, i);
     }
-    Found::Accepted
+    Ok(())
 }

@@ -2,11 +2,11 @@
 -- Main definition: misplacement. Main results: of_parent, of_child.
 use Rattle.std.specs.Prelude.{◌≡◌, ◌≢◌, cond, ℕ, eqb}
 use Rattle.std.proofs.Common.{eq-eqb, ne_eqb}
-use Rattle.row_checks.specs.declared.Found.{Found}
-use Rattle.row_checks.specs.declared.Found.TheVariants.{Parent, Child}
+use Rattle.row_checks.specs.declared.RowFault.{RowFault}
+use Rattle.row_checks.specs.declared.RowFault.TheVariants.{Parent, Child}
 
 -- of a row t whose parent is q and must be p, where its numbers are refused
-unfoldable pub misplacement : ℕ → ℕ → ℕ → Found
+unfoldable pub misplacement : ℕ → ℕ → ℕ → RowFault
 misplacement p q t = cond (eqb q p) (Child t) (Parent t)
 
 pub of_parent : (p q t : ℕ) → q ≢ p → Parent t ≡ misplacement p q t

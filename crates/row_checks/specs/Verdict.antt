@@ -1,8 +1,9 @@
 -- The verdict on one row: 0, or the number of its refusal.
--- Main definitions: verdict, placed. Main results: verdict_fault, placed_verdict, named_verdict, placed_row, misplaced_verdict.
-use Rattle.std.specs.Prelude.{◌≡◌, refl, ◌≢◌, Bool, true, false, not, ◌&&◌, cond, List, ◌∷◌, ℕ, ◌+◌, ◌≤◌, ◌<◌, eqb, ltb, leb}
+-- Main definitions: verdict, placed. Main results: verdict_fault, placed_verdict, named_verdict, placed_row, wrong_child, well_placed, misplaced_verdict.
+use Rattle.std.specs.Prelude.{◌≡◌, refl, ◌≢◌, Bool, true, false, not, ◌&&◌, cond, List, ◌∷◌, ℕ, ◌+◌, ◌≤◌, ◌<◌, max, eqb, ltb, leb}
 use Rattle.std.proofs.Math.Option.{some}
-use Rattle.std.proofs.Common.{arith, eqb-true, eq-eqb, ne_eqb, ltb-true, ltb-false, lt-ltb, le-ltb, leb-true, leb-false}
+use Rattle.std.proofs.Common.{sym, ◌∙◌, arith, eqb-true, eq-eqb, ne_eqb, ltb-true, ltb-false, lt-ltb, le-ltb, le-leb, leb-true, leb-false}
+use Rattle.std.proofs.lemmas.Bool.{lt-leb}
 use Rattle.rules.specs.Table.{Row, children_below, named_twice, row_fault}
 
 -- 5, 6 and 7 in this order
@@ -79,6 +80,17 @@ wrong_second p l r q e h = rw (eq-eqb q p e, lt-ltb l p h) (go (leb p r) refl)
     go : (b : Bool) → leb p r ≡ b → b ≡ ltb 0 (first_of false (not (ltb r p)) false)
     go true k = rw (le-ltb r p (leb-true p r k))
     go false k = rw (lt-ltb r p (leb-false p r k))
+
+-- both children in one test: that of the greater one
+pub wrong_child : (p l r q : ℕ) → q ≡ p → p ≤ max l r → ltb 0 (placed p (l, r, q)) ≡ true
+wrong_child p l r q e h = go (ltb l p) refl
+  where
+    go : (b : Bool) → ltb l p ≡ b → ltb 0 (placed p (l, r, q)) ≡ true
+    go true k = let z = ltb-true l p k in sym (wrong_second p l r q e z) ∙ le-leb p r (omega arith)
+    go false k = sym (wrong_first p l r q e (ltb-false l p k))
+
+pub well_placed : (p l r q : ℕ) → q ≡ p → max l r < p → ltb 0 (placed p (l, r, q)) ≡ false
+well_placed p l r q e h = sym (wrong_second p l r q e (omega arith)) ∙ lt-leb p r (omega arith)
 
 pub misplaced_not : (p : ℕ) (r : Row) → ltb 0 (placed p r) ≡ true → placed p r ≢ 0
 misplaced_not p r e q = omega (arith, ltb-true 0 (placed p r) e)

@@ -6,7 +6,7 @@ ghost use Rattle.rules.specs.CallToTable.{to_table_call};
 ghost use Rattle.rules.specs.CallFromTable.{from_table_call};
 
 use answering::{hand_out, refuse};
-use row_checks::Found;
+use row_checks::RowFault;
 use rules::{Answer, Kind};
 use vector_calls::check;
 
@@ -43,9 +43,9 @@ pub fn from_table(leaves: usize, rows: &[u16], out: &mut [u16]) -> Answer
     }
     let mut vector = [0u16; 1024];
     match table_order::table_vector(leaves, rows, &mut vector) {
-        Found::Parent(t) => refuse(Kind::Parent, t),
-        Found::Child(t) => refuse(Kind::Child, t),
-        Found::NamedBefore(t) => refuse(Kind::NamedBefore, t),
-        Found::Accepted => hand_out(&vector, leaves, out),
+        Ok(()) => hand_out(&vector, leaves, out),
+        Err(RowFault::Parent(t)) => refuse(Kind::Parent, t),
+        Err(RowFault::Child(t)) => refuse(Kind::Child, t),
+        Err(RowFault::NamedBefore(t)) => refuse(Kind::NamedBefore, t),
     }
 }

@@ -1,11 +1,5 @@
-use mathlib.Core.Path.{◌≡◌}
-use Prim.Native.Nat.{◌-◌}
-use Rattle.chains.specs.Lengths.{Lengths}
 use Rattle.children_order.specs.Children.{Added}
 use Rattle.children_order.proofs.add_children.Given as goal
 
 abbrev pub invariant-loop-t : goal.invariant-loop-t
-invariant-loop-t l = Added l.n l.left l.right l.t l.names l.lows l.small l.next l.last × Lengths l.initial.names l.initial.lows l.initial.small l.initial.next l.initial.last l.names l.lows l.small l.next l.last × (l.count ≡ l.n - 1)
-
-abbrev pub decreases-loop-t : goal.decreases-loop-t
-decreases-loop-t l = l.count - l.t
+invariant-loop-t l = Added l.n l.left l.right l.t l.chains.names l.chains.lows l.chains.small l.chains.next l.chains.last

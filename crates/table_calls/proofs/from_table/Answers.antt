@@ -18,23 +18,23 @@ pub returns-then-rows-wanted : goal.returns-then-rows-wanted
 unfolding answers.reads answers.number_of
 returns-then-rows-wanted c = refused_early _ (wrong_rows _ _ (omega arith) c.if-leaves-gt1024.false c.if-rows-wanted.true) c.refuse-then-rows-wanted.ensures
 
-pub returns-in-Parent : goal.returns-in-Parent
+pub returns-in-Err-Parent : goal.returns-in-Err-Parent
 unfolding answers.reads answers.number_of
-returns-in-Parent c = let found = rw c.in-Parent.is at c.table_vector.ensures in
-    refused_early _ (row_refused _ _ _ (omega arith) c.if-leaves-gt1024.false c.if-rows-wanted.false found) c.refuse-in-Parent.ensures
+returns-in-Err-Parent c = let found = rw c.in-Err-Parent.field-0-is at c.in-Err-Parent.ensures in
+    refused_early _ (row_refused _ _ _ (omega arith) c.if-leaves-gt1024.false c.if-rows-wanted.false found) (rw c.in-Err-Parent.t-is at c.refuse-in-Err-Parent.ensures)
 
-pub returns-in-Child : goal.returns-in-Child
+pub returns-in-Err-Child : goal.returns-in-Err-Child
 unfolding answers.reads answers.number_of
-returns-in-Child c = let found = rw c.in-Child.is at c.table_vector.ensures in
-    refused_early _ (row_refused _ _ _ (omega arith) c.if-leaves-gt1024.false c.if-rows-wanted.false found) c.refuse-in-Child.ensures
+returns-in-Err-Child c = let found = rw c.in-Err-Child.field-0-is at c.in-Err-Child.ensures in
+    refused_early _ (row_refused _ _ _ (omega arith) c.if-leaves-gt1024.false c.if-rows-wanted.false found) (rw c.in-Err-Child.t-is at c.refuse-in-Err-Child.ensures)
 
-pub returns-in-NamedBefore : goal.returns-in-NamedBefore
+pub returns-in-Err-NamedBefore : goal.returns-in-Err-NamedBefore
 unfolding answers.reads answers.number_of
-returns-in-NamedBefore c = let found = rw c.in-NamedBefore.is at c.table_vector.ensures in
-    refused_early _ (row_refused _ _ _ (omega arith) c.if-leaves-gt1024.false c.if-rows-wanted.false found) c.refuse-in-NamedBefore.ensures
+returns-in-Err-NamedBefore c = let found = rw c.in-Err-NamedBefore.field-0-is at c.in-Err-NamedBefore.ensures in
+    refused_early _ (row_refused _ _ _ (omega arith) c.if-leaves-gt1024.false c.if-rows-wanted.false found) (rw c.in-Err-NamedBefore.t-is at c.refuse-in-Err-NamedBefore.ensures)
 
-pub returns-in-Accepted : goal.returns-in-Accepted
-returns-in-Accepted c = let read = rw c.in-Accepted.is at c.table_vector.ensures in
+pub returns-in-Ok : goal.returns-in-Ok
+returns-in-Ok c = let read = c.in-Ok.ensures in
     let args = c.args in
     let entries = vector_count _ _ (omega arith) c.if-rows-wanted.false read.0 in
     let front = read_front args.leaves args.rows.now _ _ read.1 entries in
