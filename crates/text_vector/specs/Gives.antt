@@ -1,6 +1,6 @@
 -- What a text gives, by what the public call makes of it.
--- Main definitions: Holds, Gives, Taken. Main results: held_there, kept_in_front, broken_at, too_many, label_found, some_fault, table_read, vector_held.
-use Rattle.std.specs.Prelude.{Bool, true, false, cond, ◌≡◌, refl, ℕ, ◌+◌, ◌-◌, ◌≤◌, ◌<◌, length, take, drop}
+-- Main definitions: Holds, Gives, Taken. Main results: held_there, gives_too_many, kept_in_front, broken_at, too_many, label_found, some_fault, table_read, vector_held.
+use Rattle.std.specs.Prelude.{Bool, true, false, cond, ◌≡◌, refl, ℕ, ◌+◌, ◌-◌, ◌≤◌, ◌<◌, length, take, drop, Result, Ok, Err, IsErrAnd}
 use mathlib.Core.List.{List, [], ◌++◌, map}
 use Rattle.std.proofs.Math.Option.{none, some}
 use Rattle.std.proofs.Common.{sym, ◌∙◌, subst, arith, length-take, length-drop, take_at, lt-ltb}
@@ -35,9 +35,9 @@ use Rattle.text_reader.specs.Reading.{InFront}
 use Rattle.label_faults.specs.Fault.{fault_is}
 use Rattle.label_faults.specs.Marks.{EachOnce}
 use Rattle.text_laws.specs.Recorded.{children, TableOf, recorded_rows}
-use Rattle.text_laws.proofs.Recorded.{kept_cells, pairs_there, marks_there, table_recorded}
-use Rattle.text_vector.specs.declared.TextVector.{TextVector}
-use Rattle.text_vector.specs.declared.TextVector.TheVariants.{Entries, TooManySigns, Breaks, TooManyLeaves, Label}
+use Rattle.text_laws.proofs.Recorded.{pairs_there, marks_there, table_recorded}
+use Rattle.text_vector.specs.declared.TextFault.{TextFault}
+use Rattle.text_vector.specs.declared.TextFault.TheVariants.{TooManySigns, Breaks, TooManyLeaves, Label}
 
 -- the text's vector stands at the front of vector
 pub record Holds (s : List ℕ) (n : ℕ) (vector : List ℕ) : Type 0 where
@@ -47,12 +47,17 @@ pub record Holds (s : List ℕ) (n : ℕ) (vector : List ℕ) : Type 0 where
 pub held_there : {s : List ℕ} {n : ℕ} {vector : List ℕ} → Holds s n vector → n ≤ length vector
 held_there {n = n} {vector} H = omega (arith, H.count, length-take n vector)
 
-abbrev pub Gives : List ℕ → List ℕ → TextVector → Type 0
-Gives s vector (Entries n) = Holds s n vector
-Gives s vector TooManySigns = FromText s (refuses 2 6056)
-Gives s vector (Breaks k) = FromText s (refuses 8 k)
-Gives s vector TooManyLeaves = FromText s (refuses 1 0)
-Gives s vector (Label f) = FromText s (refuses (label_number (fault_is f).0) (fault_is f).1)
+abbrev pub Gives : List ℕ → List ℕ → Result ℕ TextFault → Type 0
+Gives s vector (Ok n) = Holds s n vector
+Gives s vector (Err TooManySigns) = FromText s (refuses 2 6056)
+Gives s vector (Err (Breaks k)) = FromText s (refuses 8 k)
+Gives s vector (Err TooManyLeaves) = FromText s (refuses 1 0)
+Gives s vector (Err (Label f)) = FromText s (refuses (label_number (fault_is f).0) (fault_is f).1)
+
+-- an error that too many signs become
+pub gives_too_many : {s : List ℕ} (vector : List ℕ) (told : Result ℕ TextFault) → IsErrAnd told (λ fault. fault ≡ TooManySigns) → FromText s (refuses 2 6056) → Gives s vector told
+gives_too_many vector (Ok n) h g = absurd h
+gives_too_many {s} vector (Err fault) h g = subst (λ (x : TextFault). Gives s vector (Err x)) (sym h) g
 
 -- the kept signs of a text stand in front of zeros, so that they can be read
 pub kept_in_front : {s signs : List ℕ} {count : ℕ} → SignsKept s signs count → InFront (kept s) signs count
@@ -100,11 +105,6 @@ module _ {s m m' : List ℕ} {n : ℕ} (K : Taken s m m' n) where
 
   pub label_found : n ≤ 1024 → (f : PlacedFault) → some f ≡ first_fault n [] (labels_of s) → FromText s (refuses (label_number f.0) f.1)
   label_found few f e = makes_labels (refuses (label_number f.0) f.1) (checked few ∙ refuse_label_lem f.0 f.1 _ _ (fault_is_lem ∙ sym e))
-
-  pub array_kept : length m' ≡ 2576
-  array_kept =
-      let c = begun_cells m K.room in
-      ap length T.there ∙ (kept_cells T.tree (begun m) (omega (arith, c.0)) (omega (arith, c.1))).long ∙ c.0
 
   module _ (few : n ≤ 1024) where
     mark_is : (x : ℕ) → x < n → cell m' (16 + x) ≡ cond (has T.tree x) 1 0

@@ -7,26 +7,33 @@ ghost use Rattle.rules.specs.Order.{vector_of};
 ghost use Rattle.text_laws.specs.Recorded.{TableOf, recorded_rows};
 ghost use Rattle.text_signs.specs.Keeping.{SignsKept};
 ghost use Rattle.text_vector.specs.Gives.{Gives};
+ghost use Rattle.text_vector.specs.declared.TextFault.TheVariants.{TooManySigns as too_many};
 
 use label_faults::LabelFault;
 use text_cells::{CELLS, SIGNS};
-use text_reader::Read;
-use text_signs::Kept;
+use text_signs::TooManySigns;
 
-// What a text gives: a vector with so many entries; or too many signs; or the place where it breaks the grammar; or too many leaves; or
-// the first label at fault. Places are in the text as sent.
-#[derive(Drop)]
-pub enum TextVector {
-    Entries(usize),
+// Why a text gives no vector: too many signs; or the place where it breaks the grammar; or too many leaves; or the first label at fault.
+// Places are in the text as sent.
+#[derive(Clone, Copy, Debug, PartialEq, Eq)]
+pub enum TextFault {
     TooManySigns,
     Breaks(usize),
     TooManyLeaves,
     Label(LabelFault),
 }
 
+impl From<TooManySigns> for TextFault {
+    ghost from_gives = { λ _ fault. fault ≡ too_many };
+
+    fn from(_many: TooManySigns) -> TextFault {
+        TextFault::TooManySigns
+    }
+}
+
 // The vector of the tree with n leaves whose pairs are recorded, at the front of vector.
-fn pairs_vector(m: &[u32], n: usize, vector: &mut [u16])
-    requires le_n { (1 ≤ n) × (n ≤ 1024) × (length m.now ≡ 2576) × (n ≤ length vector.old) }
+fn pairs_vector(m: &[u32; CELLS], n: usize, vector: &mut [u16; 1024])
+    requires le_n { (1 ≤ n) × (n ≤ 1024) }
     requires table_of { (t : Tree) × TableOf n t (recorded_rows n (drop 1040 m.now)) }
     ensures { (t : Tree) → TableOf n t (recorded_rows n (drop 1040 m.now)) → vector.new ≡ vector_of t ++ drop n vector.old }
 {
@@ -36,35 +43,37 @@ fn pairs_vector(m: &[u32], n: usize, vector: &mut [u16])
     children_order::children_vector(n, &left, &right, vector);
 }
 
-// The vector of a text whose kept signs stand in front of zeros, at the front of vector, or why it gives none.
-fn signs_vector(s: &[u8], signs: &[u8; SIGNS], count: usize, vector: &mut [u16]) -> TextVector
-    requires { SignsKept s.now signs.now count × (length s.now ≤ 65536) × (length vector.old ≡ 1024) }
+// The vector of a text whose kept signs stand in front of zeros, at the front of vector: how many entries it has, or why there is none.
+fn signs_vector(
+    s: &[u8],
+    signs: &[u8; SIGNS],
+    count: usize,
+    vector: &mut [u16; 1024],
+) -> Result<usize, TextFault>
+    requires { SignsKept s.now signs.now count × (length s.now ≤ 65536) }
     ensures { Gives s.now vector.new result }
 {
     let mut m = [0u32; CELLS];
-    match text_reader::read_text(signs, count, &mut m) {
-        Read::Broken(k) => TextVector::Breaks(text_signs::place_of(s, k)),
-        Read::Leaves(n) => {
-            if 1024 < n {
-                return TextVector::TooManyLeaves;
-            }
-            if !label_faults::each_once(&m, n) {
-                return TextVector::Label(label_faults::first_fault(s, n));
-            }
-            pairs_vector(&m, n, vector);
-            TextVector::Entries(n)
-        }
+    let n = match text_reader::read_text(signs, count, &mut m) {
+        Ok(n) => n,
+        Err(broken) => return Err(TextFault::Breaks(text_signs::place_of(s, broken.sign))),
+    };
+    if 1024 < n {
+        return Err(TextFault::TooManyLeaves);
     }
+    if !label_faults::each_once(&m, n) {
+        return Err(TextFault::Label(label_faults::first_fault(s, n)));
+    }
+    pairs_vector(&m, n, vector);
+    Ok(n)
 }
 
-// Reads a text: its vector, at the front of vector, or why it gives none.
-pub fn read_vector(s: &[u8], vector: &mut [u16]) -> TextVector
-    requires { (length s.now ≤ 65536) × (length vector.old ≡ 1024) }
+// Reads a text: its vector, at the front of vector, and how many entries it has, or why it gives none.
+pub fn read_vector(s: &[u8], vector: &mut [u16; 1024]) -> Result<usize, TextFault>
+    requires { length s.now ≤ 65536 }
     ensures { Gives s.now vector.new result }
 {
     let mut signs = [0u8; SIGNS];
-    match text_signs::keep(s, &mut signs) {
-        Kept::TooMany => TextVector::TooManySigns,
-        Kept::Signs(count) => signs_vector(s, &signs, count, vector),
-    }
+    let count = text_signs::keep(s, &mut signs)?;
+    signs_vector(s, &signs, count, vector)
 }
