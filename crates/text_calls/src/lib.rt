@@ -8,7 +8,7 @@ ghost use Rattle.rules.specs.CallFromNewick.{from_newick_call};
 use answering::{hand_out, refuse};
 use label_faults::LabelFault;
 use rules::{Answer, Kind};
-use text_vector::TextVector;
+use text_vector::TextFault;
 use vector_calls::check;
 
 /// Vector to Newick: 1, 4, 3.
@@ -37,13 +37,13 @@ pub fn from_newick(text: &[u8], out: &mut [u16]) -> Answer
     }
     let mut vector = [0u16; 1024];
     match text_vector::read_vector(text, &mut vector) {
-        TextVector::TooManySigns => refuse(Kind::InputLength, 6056),
-        TextVector::Breaks(place) => refuse(Kind::Grammar, place),
-        TextVector::TooManyLeaves => refuse(Kind::LeafCount, 0),
-        TextVector::Label(fault) => match fault {
+        Ok(n) => hand_out(&vector, n, out),
+        Err(TextFault::TooManySigns) => refuse(Kind::InputLength, 6056),
+        Err(TextFault::Breaks(place)) => refuse(Kind::Grammar, place),
+        Err(TextFault::TooManyLeaves) => refuse(Kind::LeafCount, 0),
+        Err(TextFault::Label(fault)) => match fault {
             LabelFault::Stray(place) => refuse(Kind::StrayLabel, place),
             LabelFault::Double(place) => refuse(Kind::DoubleLabel, place),
         },
-        TextVector::Entries(n) => hand_out(&vector, n, out),
     }
 }

@@ -1,11 +1,11 @@
 -- `from_newick` meets its contract: what is told of the text, and where it has a vector the room.
+use Rattle.std.proofs.Common.{sym, ◌∙◌}
 use Rattle.rules.specs.Answer as answers
 use Rattle.accepting.proofs.Kept.{refused_early, handed_on}
 use Rattle.rules.specs.CallFromNewick.{too_long}
 use Rattle.rules.specs.Guards.{label_number}
 use Rattle.label_faults.specs.Fault.{fault_is}
-use Rattle.text_vector.specs.Gives.{Gives, held_there}
-use Rattle.text_vector.specs.declared.TextVector.TheVariants.{Label}
+use Rattle.text_vector.specs.Gives.{held_there}
 use Rattle.text_calls.proofs.from_newick.Goals as goal
 
 pub returns-then-text-gt65536 : goal.returns-then-text-gt65536
@@ -13,35 +13,31 @@ unfolding answers.reads answers.number_of
 returns-then-text-gt65536 c = refused_early _ (too_long c.if-text-gt65536.true) c.refuse.ensures
 
 pub hand_out-requires : goal.hand_out-requires
-hand_out-requires c = held_there (rw c.in-Entries.is at c.read_vector.ensures)
+hand_out-requires c = held_there c.in-Ok.ensures
 
-pub returns-in-TooManySigns : goal.returns-in-TooManySigns
+pub returns-in-Err-TooManySigns : goal.returns-in-Err-TooManySigns
 unfolding answers.reads answers.number_of
-returns-in-TooManySigns c = let F = rw c.in-TooManySigns.is at c.read_vector.ensures in
-    refused_early _ F c.refuse-in-TooManySigns.ensures
+returns-in-Err-TooManySigns c = refused_early _ (rw c.in-Err-TooManySigns.field-0-is at c.in-Err-TooManySigns.ensures) c.refuse-in-Err-TooManySigns.ensures
 
-pub returns-in-Breaks : goal.returns-in-Breaks
+pub returns-in-Err-Breaks : goal.returns-in-Err-Breaks
 unfolding answers.reads answers.number_of
-returns-in-Breaks c = let F = rw c.in-Breaks.is at c.read_vector.ensures in
-    refused_early _ F c.refuse-in-Breaks.ensures
+returns-in-Err-Breaks c = refused_early _ (rw c.in-Err-Breaks.field-0-is at c.in-Err-Breaks.ensures) (rw c.in-Err-Breaks.place-is at c.refuse-in-Err-Breaks.ensures)
 
-pub returns-in-TooManyLeaves : goal.returns-in-TooManyLeaves
+pub returns-in-Err-TooManyLeaves : goal.returns-in-Err-TooManyLeaves
 unfolding answers.reads answers.number_of
-returns-in-TooManyLeaves c = let F = rw c.in-TooManyLeaves.is at c.read_vector.ensures in
-    refused_early _ F c.refuse-in-TooManyLeaves.ensures
+returns-in-Err-TooManyLeaves c = refused_early _ (rw c.in-Err-TooManyLeaves.field-0-is at c.in-Err-TooManyLeaves.ensures) c.refuse-in-Err-TooManyLeaves.ensures
 
 pub returns-in-Stray : goal.returns-in-Stray
 unfolding answers.reads answers.number_of label_number fault_is
 returns-in-Stray c =
-    let told : Gives c.args.text.now c.read_vector.new.vector (Label c.in-Label.fault) = rw c.in-Label.is at c.read_vector.ensures in
-    refused_early _ (rw c.in-Stray.is at told) c.refuse-in-Stray.ensures
+    let told = rw c.in-Err-Label.field-0-is at c.in-Err-Label.ensures in
+    refused_early _ (rw (sym c.in-Err-Label.fault-is ∙ c.in-Stray.is) at told) c.refuse-in-Stray.ensures
 
 pub returns-in-Double : goal.returns-in-Double
 unfolding answers.reads answers.number_of label_number fault_is
 returns-in-Double c =
-    let told : Gives c.args.text.now c.read_vector.new.vector (Label c.in-Label.fault) = rw c.in-Label.is at c.read_vector.ensures in
-    refused_early _ (rw c.in-Double.is at told) c.refuse-in-Double.ensures
+    let told = rw c.in-Err-Label.field-0-is at c.in-Err-Label.ensures in
+    refused_early _ (rw (sym c.in-Err-Label.fault-is ∙ c.in-Double.is) at told) c.refuse-in-Double.ensures
 
-pub returns-in-Entries : goal.returns-in-Entries
-returns-in-Entries c = let H = rw c.in-Entries.is at c.read_vector.ensures in
-    handed_on _ H.makes c.hand_out.ensures
+pub returns-in-Ok : goal.returns-in-Ok
+returns-in-Ok c = handed_on _ c.in-Ok.ensures.makes c.hand_out.ensures
