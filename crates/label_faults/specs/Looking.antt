@@ -1,5 +1,5 @@
 -- The second look at a text, byte by byte, for the first label at fault.
--- Main definitions: placed, reading, Looking. Main results: number_small, look_start, look_digit, look_large, look_used, look_fresh, look_pass,
+-- Main definitions: placed, reading, Looking. Main results: look_start, look_digit, look_large, look_used, look_fresh, look_pass,
 -- look_some, look_end.
 use Rattle.std.specs.Prelude.{◌≡◌, Bool, not, ◌||◌, ℕ, ◌+◌, ◌-◌, ◌*◌, ◌≤◌, ◌<◌, ltb, length, get_or, set, drop, Option, Some, None, IfSome, IsSome}
 use Rattle.std.proofs.Math.Path.{refl, ap, sym, subst}
@@ -36,11 +36,6 @@ pub record Looking (s : List ℕ) (n : ℕ) (used : List ℕ) (at : ℕ) (label 
 pub look_start : {s : List ℕ} {n : ℕ} {used : List ℕ} → n ≤ 1024 → length used ≡ 1024 → AllZero used → Looking s n used 0 None
 unfolding labels_of
 look_start h r u = record { seen = []; few = h; within = omega arith; small = tt; marks = flagged_none r (λ y l. u y); rest = refl }
-
--- a number below n is below 1,024
-pub number_small : {n : ℕ} (label : Option Label) → n ≤ 1024 → IfSome label (λ l. l.number < n) → IfSome label (λ l. l.number < 1024)
-number_small None few h = tt
-number_small (Some l) few h = omega arith
 
 -- a label that is not below n is at fault, whatever labels follow
 large : (n : ℕ) (seen : List ℕ) (start x : ℕ) (ls : List Placed) → n ≤ x → first_fault n seen ((start, x) ∷ ls) ≡ some (not_below, start)

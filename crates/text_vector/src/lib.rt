@@ -55,7 +55,7 @@ fn signs_vector(
 {
     let mut m = [0u32; CELLS];
     let n = match text_reader::read_text(signs, count, &mut m) {
-        Ok(n) => n,
+        Ok(leaves) => leaves,
         Err(broken) => return Err(TextFault::Breaks(text_signs::place_of(s, broken.sign))),
     };
     if 1024 < n {
