@@ -1,12 +1,8 @@
 -- The vector with commas, written entry by entry.
--- Main definitions: Listed. Main results: listed_start, listed_next, listed_end.
-use mathlib.Core.List.{List, [], ◌∷◌, ◌++◌}
-use mathlib.Core.Path.{◌≡◌, sym, ap, subst, ◌∙◌}
-use Prim.Native.Nat.{ℕ, ◌+◌, ◌*◌, ◌≤◌, ◌<◌}
-use native.Mathlib.Omega.{arith}
-use native.Mathlib.Numerals.{add-one}
-use lib.ListN.{length, get_or, take, set}
-use lib.Seq.{take-suc, length-take-le, take_all}
+-- Main results: entry_small, entry_behind, first_entry, entry_room, next_entry.
+use Rattle.std.proofs.Common.{List, ◌∷◌, ◌++◌, ◌≡◌, sym, ap, ◌∙◌, ℕ, ◌+◌, ◌-◌, ◌*◌, ◌≤◌, ◌<◌, length, get_or, take, drop, set, add-one, arith}
+use Rattle.std.proofs.Math.Seq.{take-suc, length-take-le}
+use Rattle.std.proofs.lemmas.Grind.{common_steps}
 use Rattle.rules.specs.Vector.{entry, bound, Vector}
 use Rattle.rules.specs.Newick.{digits}
 use Rattle.rules.specs.Listing.{commaed}
@@ -18,53 +14,26 @@ pub entry_small : (v : List ℕ) (i : ℕ) → Vector v → i < length v → get
 unfolding entry bound
 entry_small v i ok h = omega (arith, ok.few, ok.valid.bounded i h)
 
+-- an entry behind the first one, by its place among those
+pub entry_behind : (v : List ℕ) (i : ℕ) {y : ℕ} → y ≡ get_or (take (length v - 1) (drop 1 v)) i 0 → y ≡ get_or v (i + 1) 0
+entry_behind v i e = grind (arith, common_steps)
+
+pub first_entry : (v : List ℕ) → 1 ≤ length v → commaed (take 1 v) ≡ digits 4 (get_or v 0 0)
+unfolding commaed
+first_entry v h = ap commaed (take-suc v 0 0 h)
+
 -- the first i entries of v stand from `at` on, and what follows begins at x
-pub record Listed (v : List ℕ) (at : ℕ) (before after : List ℕ) (i x : ℕ) : Type 0 where
-  pub accepted : Vector v
-  pub room : at + 5 * length v ≤ length before
-  pub some_entry : 1 ≤ i
-  pub within : i ≤ length v
-  pub wrote : Wrote (commaed (take i v)) at before after x
+module _ (v : List ℕ) (i : ℕ) {at x : ℕ} {before after : List ℕ} (W : Wrote (commaed (take i v)) at before after x) (more : i < length v) where
+  few : length (take i v) ≡ i
+  few = length-take-le i v (omega arith)
 
-module _ {v : List ℕ} {at : ℕ} {before : List ℕ} where
-  pub listed_start : {after : List ℕ} {y r : ℕ} → Vector v → at + 5 * length v ≤ length before
-      → y ≡ get_or v 0 0 → Wrote (digits 4 y) at before after r → Listed v at before after 1 r
-  unfolding commaed
-  listed_start {after} {y} {r} ok h same w =
-      let e : take 1 v ≡ get_or v 0 0 ∷ [] = take-suc v 0 0 ok.valid.some_leaf in
-      record {
-        accepted = ok;
-        room = h;
-        some_entry = omega arith;
-        within = ok.valid.some_leaf;
-        wrote = subst (λ (u : List ℕ). Wrote (commaed u) at before after r) (sym e) (subst (λ (z : ℕ). Wrote (digits 4 z) at before after r) same w);
-      }
+  -- there is room for a comma and the next entry
+  pub entry_room : at + 5 * length v ≤ length before → x + 5 ≤ length after
+  entry_room room = omega (arith, W.end, commaed_at_most (take i v), few, wrote_same W)
 
-  module _ {after : List ℕ} {i x : ℕ} (L : Listed v at before after i x) where
-    pub listed_length : x ≤ at + 5 * i
-    listed_length = omega (arith, L.wrote.end, commaed_at_most (take i v), length-take-le i v L.within)
-
-    pub listed_same : length after ≡ length before
-    listed_same = wrote_same L.wrote
-
-    pub listed_next : {then : List ℕ} {y r : ℕ} → i < length v → y ≡ get_or v i 0
-        → Wrote (digits 4 y) (x + 1) (set after x 44) then r → Listed v at before then (i + 1) r
-    listed_next {then} {y} {r} h same w =
-        let e : commaed (take (i + 1) v) ≡ commaed (take i v) ++ (44 ∷ digits 4 (get_or v i 0)) =
-        ap commaed (ap (λ (k : ℕ). take k v) (add-one i) ∙ take-suc v i 0 h) ∙ commaed_more (take i v) (get_or v i 0) (omega (arith, length-take-le i v L.within, L.some_entry)) in
-        record {
-          accepted = L.accepted;
-          room = L.room;
-          some_entry = omega arith;
-          within = omega arith;
-          wrote = subst (λ (u : List ℕ). Wrote u at before then r) (sym e)
-              (wrote_behind L.wrote 44
-              (subst (λ (z : ℕ). Wrote (digits 4 z) (x + 1) (set after x 44) then r) same w));
-        }
-
-    -- there is room for a comma and the next entry
-    pub listed_room : i < length v → x + 5 ≤ length after
-    listed_room h = omega (arith, listed_length, listed_same, L.room)
-
-    pub listed_end : length v ≤ i → Wrote (commaed v) at before after x
-    listed_end h = subst (λ (u : List ℕ). Wrote (commaed u) at before after x) (take_all i v h) L.wrote
+  pub next_entry : {then : List ℕ} {y r : ℕ} → 1 ≤ i → y ≡ get_or v i 0 → Wrote (digits 4 y) (x + 1) (set after x 44) then r
+      → Wrote (commaed (take (i + 1) v)) at before then r
+  next_entry {y = y} some same E =
+      let e : commaed (take (i + 1) v) ≡ commaed (take i v) ++ (44 ∷ digits 4 (get_or v i 0)) =
+      ap commaed (ap (λ (k : ℕ). take k v) (add-one i) ∙ take-suc v i 0 more) ∙ commaed_more (take i v) (get_or v i 0) (omega (arith, few)) in
+      rw (e, sym same) (wrote_behind W 44 E)

@@ -1,12 +1,7 @@
--- `write_entries` meets its contract: the first i entries stand there with commas.
-use mathlib.Core.List.{List}
-use Prim.Native.Nat.{ℕ, ◌-◌}
-use lib.ListN.{length}
-use Rattle.listing_front.proofs.Commas.{Listed}
+use Rattle.std.proofs.Common.{◌+◌, take}
+use Rattle.rules.specs.Listing.{commaed}
+use Rattle.digits.specs.Wrote.{Wrote}
 use Rattle.listing_front.proofs.write_entries.Given as goal
 
-abbrev pub invariant-loop-i : goal.invariant-loop-i
-invariant-loop-i l = (before : List ℕ) → Listed l.v l.at before l.initial.out 1 l.initial.x → Listed l.v l.at before l.out l.i l.x
-
-abbrev pub decreases-loop-i : goal.decreases-loop-i
-decreases-loop-i l = length l.v - l.i
+abbrev pub invariant-loop-entry : goal.invariant-loop-entry
+invariant-loop-entry l = Wrote (commaed (take (l.entry-index + 1) l.v)) l.at l.fn.out l.out l.x
