@@ -8,13 +8,11 @@ ghost use Rattle.rules.specs.Promise.{list, makes, Keeps};
 use rules::{Answer, Kind, Refusal};
 
 /// The refusal of a kind at a place.
+#[tactic(auto, unfolding(rules::specs::Answer::reads, rules::specs::Answer::number_of))]
 pub fn refuse(kind: Kind, place: usize) -> Answer
     ensures { reads result ≡ refused (number_of kind) place }
 {
-    Answer::Refused(Refusal {
-        kind: kind,
-        place: place,
-    })
+    Answer::Refused(Refusal { kind, place })
 }
 
 /// 3 where out has no room for the first n numbers; else they are copied out, and the call is done.

@@ -6,7 +6,9 @@ ghost use Rattle.rules.specs.Answer.{number_of};
 
 use rules::Kind;
 
-/// The number of a kind in the table of refusals.
+/// The number of a kind in the table of refusals. It would be `impl From<Kind> for u64`, which only the crate of Kind may write; and in
+/// `rules` stand definitions alone.
+#[tactic(auto, unfolding(rules::specs::Answer::number_of))]
 pub fn number_of(kind: Kind) -> u64
     ensures { result ≡ number_of kind }
 {
