@@ -2,7 +2,7 @@
 // where a part of a case is not whole.
 #![tactic(auto)]
 
-use case_lines::{Case, hash};
+use case_lines::{Case, MOST_CASES, hash};
 use case_stream::{Call, lent, list, long_number, next_call};
 use printing::line;
 
@@ -10,7 +10,7 @@ fn main() {
     let mut numbers = [0u16; 8192];
     let mut archive = [0u8; 8192];
     let mut bytes = [0u8; 8192];
-    for index in 0..4294967295 {
+    for index in 0..MOST_CASES {
         if case(index, &mut numbers, &mut archive, &mut bytes).is_none() {
             return;
         }

@@ -2,11 +2,15 @@
 // program. A call that makes a table, a text or a record is lent its buffer, and what it wrote comes back, so that it can be read.
 #![tactic(auto)]
 
+ghost use Rattle.std.specs.Prelude.{◌≤◌, length};
+
 use printing::{Hex, Listed, Shown, Text, line};
 use rules::Answer;
 
 // What an answer says was written: nothing where it refuses or says more than there is room for.
-fn written<T>(given: Answer, out: &[T]) -> &[T] {
+fn written<T>(given: Answer, out: &[T]) -> &[T]
+    ensures { length result.now ≤ length out.now }
+{
     match given {
         Answer::Done(count) => out.get(..count).unwrap_or(&[]),
         Answer::Refused(_) => &[],
@@ -18,7 +22,9 @@ pub fn check(v: &[u16]) {
     line(format_args!("check {} : {} : -", Listed(v), Shown(given)));
 }
 
-pub fn to_table<'a>(v: &[u16], out: &'a mut [u16]) -> &'a [u16] {
+pub fn to_table<'a>(v: &[u16], out: &'a mut [u16]) -> &'a [u16]
+    ensures { length result.now ≤ length out.old }
+{
     let given = trees::to_table(v, out);
     let rows = written(given, out);
     line(format_args!("to_table {} : {} : {}", Listed(v), Shown(given), Listed(rows)));
@@ -32,7 +38,9 @@ pub fn from_table(leaves: usize, rows: &[u16]) {
     line(format_args!("from_table {leaves} {} : {} : {}", Listed(rows), Shown(given), Listed(v)));
 }
 
-pub fn to_newick<'a>(v: &[u16], out: &'a mut [u8]) -> &'a [u8] {
+pub fn to_newick<'a>(v: &[u16], out: &'a mut [u8]) -> &'a [u8]
+    ensures { length result.now ≤ length out.old }
+{
     let given = trees::to_newick(v, out);
     let text = written(given, out);
     line(format_args!("to_newick {} : {} : {}", Listed(v), Shown(given), Text(text)));
@@ -46,7 +54,9 @@ pub fn from_newick(text: &[u8]) {
     line(format_args!("from_newick {} : {} : {}", Text(text), Shown(given), Listed(v)));
 }
 
-pub fn pack<'a>(v: &[u16], out: &'a mut [u8]) -> &'a [u8] {
+pub fn pack<'a>(v: &[u16], out: &'a mut [u8]) -> &'a [u8]
+    ensures { length result.now ≤ length out.old }
+{
     let given = trees::pack(v, out);
     let record = written(given, out);
     line(format_args!("pack {} : {} : {}", Listed(v), Shown(given), Hex(record)));
@@ -82,7 +92,9 @@ pub fn relabel(v: &[u16], p: &[u16]) {
     line(format_args!("relabel {} {} : {} : {}", Listed(v), Listed(p), Shown(given), Listed(relabelled)));
 }
 
-pub fn write_archive<'a>(leaves: usize, entries: &[u16], out: &'a mut [u8]) -> &'a [u8] {
+pub fn write_archive<'a>(leaves: usize, entries: &[u16], out: &'a mut [u8]) -> &'a [u8]
+    ensures { length result.now ≤ length out.old }
+{
     let given = trees::write_archive(leaves, entries, out);
     let archive = written(given, out);
     line(format_args!("write_archive {leaves} {} : {} : {}", Listed(entries), Shown(given), Hex(archive)));

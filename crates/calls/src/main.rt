@@ -3,7 +3,7 @@
 // 8,192 elements.
 #![tactic(auto)]
 
-use case_lines::{Case, hash, make};
+use case_lines::{Case, MOST_CASES, hash, make};
 use case_stream::{Call, lent, list, long_number, next_call};
 use printing::{Shown, line};
 
@@ -12,7 +12,7 @@ fn main() {
     let mut p = [0u16; 8192];
     let mut out = [0u16; 8192];
     let mut bytes = [0u8; 8192];
-    for index in 0..4294967295 {
+    for index in 0..MOST_CASES {
         if case(index, &mut v, &mut p, &mut out, &mut bytes).is_none() {
             return;
         }

@@ -7,6 +7,14 @@ use printing::{Shown, line};
 use rules::Answer;
 use std::fmt;
 
+/// How many cases a run looks at; no stream has so many.
+pub const MOST_CASES: usize = 4294967295;
+
+// What the hash is of no byte, and what it is multiplied by for each byte.
+const START: u32 = 2166136261;
+
+const FACTOR: u32 = 16777619;
+
 /// A case: how many stood before it in the stream, and its call.
 #[derive(Clone, Copy)]
 pub struct Case {
@@ -17,9 +25,7 @@ pub struct Case {
 // The index and the call's number, with which every line begins.
 impl fmt::Display for Case {
     fn fmt<W: fmt::Write>(&self, f: &mut fmt::Formatter<W>) -> fmt::Result {
-        let index = self.index;
-        let number = self.call as u8;
-        write!(f, "{index} {number}")
+        write!(f, "{} {}", self.index, self.call as u8)
     }
 }
 
@@ -38,7 +44,7 @@ pub trait Hashed: Copy {
 
 impl Hashed for u8 {
     fn behind(self, hash: u32) -> u32 {
-        (hash ^ u32::from(self)).wrapping_mul(16777619)
+        (hash ^ u32::from(self)).wrapping_mul(FACTOR)
     }
 }
 
@@ -51,7 +57,7 @@ impl Hashed for u16 {
 
 /// The hash of a buffer.
 pub fn hash<T: Hashed>(xs: &[T]) -> u32 {
-    xs.iter().fold(2166136261, |hash, x| x.behind(hash))
+    xs.iter().fold(START, |hash, x| x.behind(hash))
 }
 
 /// The case of a call that makes one list of another: it is made with the very buffers that the case lends, and its line is

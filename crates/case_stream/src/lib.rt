@@ -2,6 +2,11 @@
 // the input ends before it does, and where there is no room for it.
 #![tactic(auto)]
 
+ghost use Rattle.std.specs.Prelude.{◌≤◌, length, IfSome};
+
+// How much more each number of a lent buffer is than the one before it.
+const STEP: u16 = 31;
+
 /// The calls that have cases, each with its number in the stream and on the line of a case.
 #[derive(Clone, Copy)]
 pub enum Call {
@@ -39,7 +44,7 @@ pub trait Element: Copy {
     /// Fills xs, where the input has so many elements.
     fn read(xs: &mut [Self]) -> Option<()>;
 
-    /// The element that a number of two bytes is where it is lent: of a byte the less significant one.
+    /// The number x as an element: where that is a byte, the less significant one of x.
     fn of(x: u16) -> Self;
 }
 
@@ -55,6 +60,7 @@ impl Element for u8 {
 
 impl Element for u16 {
     fn read(xs: &mut [u16]) -> Option<()> {
+        // Two bytes for each of 8,192 numbers, the most that a list of a case has.
         let mut pairs = [0u8; 16384];
         let bytes = pairs.get_mut(..2 * xs.len())?;
         u8::read(bytes)?;
@@ -85,7 +91,9 @@ pub fn long_number() -> usize {
 }
 
 // The room for a list at the start of xs, of the length that the input has.
-fn room<T>(xs: &mut [T]) -> Option<&mut [T]> {
+fn room<T>(xs: &mut [T]) -> Option<&mut [T]>
+    ensures { IfSome result (λ part. length part.now ≤ length xs.old) }
+{
     let mut four = [0u8; 4];
     u8::read(&mut four)?;
     let n = u32::from_le_bytes(four) as usize;
@@ -93,21 +101,25 @@ fn room<T>(xs: &mut [T]) -> Option<&mut [T]> {
 }
 
 /// A list that is given: a vector, rows, a permutation, a text or a record, at the start of what is lent for it.
-pub fn list<T: Element>(xs: &mut [T]) -> Option<&mut [T]> {
+pub fn list<T: Element>(xs: &mut [T]) -> Option<&mut [T]>
+    ensures { IfSome result (λ given. length given.now ≤ length xs.old) }
+{
     let given = room(xs)?;
     T::read(given)?;
     Some(given)
 }
 
-/// A buffer to lend, at the start of what is lent for it: each of its numbers is 31 more than the one before it, the first is given.
-pub fn lent<T: Element>(xs: &mut [T]) -> Option<&mut [T]> {
+/// A buffer to lend, at the start of what is lent for it: its numbers rise by steps from the first, which is given.
+pub fn lent<T: Element>(xs: &mut [T]) -> Option<&mut [T]>
+    ensures { IfSome result (λ out. length out.now ≤ length xs.old) }
+{
     let out = room(xs)?;
     let mut two = [0u8; 2];
     u8::read(&mut two)?;
     let mut x = u16::from_le_bytes(two);
     for place in out.iter_mut() {
         *place = T::of(x);
-        x = x.wrapping_add(31);
+        x = x.wrapping_add(STEP);
     }
     Some(out)
 }

@@ -7,7 +7,7 @@ use std::fmt::Write;
 
 // Standard output. A write that fails is passed over. std's own `print!` would call C's errno besides its read and write: one function more
 // to be trusted.
-#[derive(Clone, Copy)]
+#[derive(Drop)]
 struct Output;
 
 impl Write for Output {
@@ -27,8 +27,7 @@ impl fmt::Display for Shown {
             Answer::Done(count) => write!(f, "done {count}"),
             Answer::Refused(why) => {
                 let number = refusal_numbers::number_of(why.kind);
-                let place = why.place;
-                write!(f, "refused {number} {place}")
+                write!(f, "refused {number} {}", why.place)
             }
         }
     }
@@ -55,7 +54,7 @@ impl<'a> fmt::Display for Listed<'a> {
     }
 }
 
-/// A text as it stands, or - where it is empty.
+/// A text as it stands, or - where it is empty. Each byte is a sign of its own, as in ASCII.
 #[derive(Clone, Copy)]
 pub struct Text<'a>(pub &'a [u8]);
 
@@ -65,8 +64,7 @@ impl<'a> fmt::Display for Text<'a> {
             return write!(f, "-");
         }
         for b in self.0 {
-            let sign = char::from(*b);
-            write!(f, "{sign}")?;
+            write!(f, "{}", char::from(*b))?;
         }
         Ok(())
     }
@@ -93,7 +91,7 @@ pub fn byte(b: u8) {
     io::write_all(1, &[b]);
 }
 
-/// The text of an answer on standard output, where its line goes on.
+/// An answer on standard output, without a line's end.
 pub fn answer(given: Answer) {
     let _ = write!(Output, "{}", Shown(given));
 }

@@ -2,13 +2,13 @@
 // of a case is not whole. A text that is given may have more bytes than any that is read.
 #![tactic(auto)]
 
-use case_lines::{Case, make};
+use case_lines::{Case, MOST_CASES, make};
 use case_stream::{Call, next_call};
 
 fn main() {
     let mut text = [0u8; 65600];
     let mut numbers = [0u16; 8192];
-    for index in 0..4294967295 {
+    for index in 0..MOST_CASES {
         if case(index, &mut text, &mut numbers).is_none() {
             return;
         }
