@@ -1,13 +1,11 @@
 -- What shuffle and relabel make of an accepted vector.
--- Main results: shuffle_made, new_count, shuffled_count; length_refused, value_refused, no_value_fault, relabel_made.
+-- Main results: shuffle_made, new_count, shuffled_count; length_refused, value_refused, relabel_made.
 use mathlib.Core.List.{List, []}
 use mathlib.Core.Logic.{◌≢◌}
-use mathlib.Core.Option.{none}
+use mathlib.Core.Option.{none, some}
 use mathlib.Core.Path.{◌≡◌, ◌∙◌}
-use Prim.Native.Nat.{ℕ, ◌≤◌, ◌<◌}
-use native.Mathlib.Omega.{arith}
+use Prim.Native.Nat.{ℕ}
 use lib.ListN.{length}
-use borrow.Author.Tests.{lt-ltb, le-ltb}
 use Rattle.rules.specs.Tree.{tree_of}
 use Rattle.rules.specs.Order.{vector_of}
 use Rattle.rules.specs.Shuffle.{renamed, new_of, permutation_fault}
@@ -17,7 +15,6 @@ use Rattle.rules.specs.CallRelabel.{relabel}
 use Rattle.accepting.proofs.Guards.{wrong_length, right_length, refuse_at_lem, pass_at}
 use Rattle.laws.proofs.TreeOf.{tree_leaves}
 use Rattle.shuffle_laws.proofs.Taken.{new_no_fault}
-use Rattle.permutation.specs.Marks.{place_of}
 use Rattle.renaming.specs.VectorRows.{renamed_count}
 use Rattle.accepting.proofs.FromVector.{vector_accepted}
 use Rattle.rules.specs.Vector.{Vector}
@@ -40,18 +37,10 @@ unfolding relabel
 length_refused v p S d = vector_accepted v _ S ∙ wrong_length (length v) (length p) _ d
 
 -- 11: "permutation value not below n, or used before"
-pub value_refused : (v p : List ℕ) (i : ℕ) → Vector v → length p ≡ length v → permutation_fault (length v) 0 [] p ≡ place_of (length p) i → i < length v
-    → relabel v p ≡ refuses 11 i
-unfolding relabel place_of
-value_refused v p i S l f h =
-    let k : i < length p = omega arith in
-    vector_accepted v _ S ∙ right_length (length v) (length p) _ l
-    ∙ refuse_at_lem 11 i (permutation_fault (length v) 0 [] p) _ (f ∙ rw (lt-ltb i (length p) k))
-
--- what the search of the permutation says where it found nothing
-pub no_value_fault : (n : ℕ) (p : List ℕ) (i : ℕ) → length p ≡ n → permutation_fault n 0 [] p ≡ place_of (length p) i → n ≤ i → permutation_fault n 0 [] p ≡ none
-unfolding place_of
-no_value_fault n p i l f h = let k : length p ≤ i = omega arith in f ∙ rw (le-ltb i (length p) k)
+pub value_refused : (v p : List ℕ) (i : ℕ) → Vector v → length p ≡ length v → permutation_fault (length v) 0 [] p ≡ some i → relabel v p ≡ refuses 11 i
+unfolding relabel
+value_refused v p i S l f =
+    vector_accepted v _ S ∙ right_length (length v) (length p) _ l ∙ refuse_at_lem 11 i (permutation_fault (length v) 0 [] p) _ f
 
 pub relabel_made : (v p : List ℕ) → Vector v → length p ≡ length v → permutation_fault (length v) 0 [] p ≡ none
     → relabel v p ≡ made (vector_of (renamed p (tree_of v)))

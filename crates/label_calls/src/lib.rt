@@ -40,8 +40,7 @@ pub fn relabel(v: &[u16], p: &[u16], out: &mut [u16]) -> Answer
             if p.len() != n {
                 return refuse(Kind::InputLength, n);
             }
-            let i = permutation::permutation_fault(p, n);
-            if i < n {
+            if let Some(i) = permutation::permutation_fault(p, n) {
                 return refuse(Kind::Permutation, i);
             }
             if out.len() < n {

@@ -3,7 +3,7 @@ use Rattle.accepting.proofs.Kept.{refused_early, short_room, full_list}
 use Rattle.rules.specs.Answer as answers
 use Rattle.rules.specs.CallRelabel as calls
 use Rattle.vector_calls.proofs.Checked.{checked_sound, refused_alike}
-use Rattle.label_calls.proofs.Renaming.{length_refused, value_refused, no_value_fault, relabel_made}
+use Rattle.label_calls.proofs.Renaming.{length_refused, value_refused, relabel_made}
 use Rattle.renaming.specs.VectorRows.{renamed_count}
 use Rattle.label_calls.proofs.relabel.Goals as goal
 
@@ -12,26 +12,22 @@ unfolding answers.reads answers.number_of
 returns-then-p-n c = let S = checked_sound c.check.ensures c.in-Done.is in
     refused_early _ (length_refused _ _ S c.if-p-n.true) c.refuse.ensures
 
-pub permutation_fault-i-requires : goal.permutation_fault-i-requires
-permutation_fault-i-requires c = (checked_sound c.check.ensures c.in-Done.is).few
+pub permutation_fault-requires : goal.permutation_fault-requires
+permutation_fault-requires c = (checked_sound c.check.ensures c.in-Done.is).few
 
-pub returns-then-i-n : goal.returns-then-i-n
+pub returns-in-Some : goal.returns-in-Some
 unfolding answers.reads answers.number_of
-returns-then-i-n c = let S = checked_sound c.check.ensures c.in-Done.is in
-    refused_early _ (value_refused _ _ _ S c.if-p-n.false c.permutation_fault-i.ensures.1 c.if-i-n.true) c.refuse-then-i-n.ensures
+returns-in-Some c = let S = checked_sound c.check.ensures c.in-Done.is in
+    refused_early _ (value_refused _ _ _ S c.if-p-n.false c.in-Some.ensures) c.refuse-in-Some.ensures
 
 pub returns-then-out-n : goal.returns-then-out-n
 unfolding answers.reads answers.number_of
 returns-then-out-n c = let S = checked_sound c.check.ensures c.in-Done.is in
-    let f = no_value_fault _ _ _ c.if-p-n.false c.permutation_fault-i.ensures.1 c.if-i-n.false in
+    let f = c.in_default.ensures in
     short_room _ _ (relabel_made _ _ S c.if-p-n.false f) (renamed_count _ _ S.valid c.if-p-n.false f) c.if-out-n.true c.refuse-then-out-n.ensures
 
-pub renamed_vector-requires : goal.renamed_vector-requires
-renamed_vector-requires c = let S = checked_sound c.check.ensures c.in-Done.is in
-    record {
-      vector = (S, c.if-out-n.false);
-      p_len = (c.if-p-n.false, no_value_fault _ _ _ c.if-p-n.false c.permutation_fault-i.ensures.1 c.if-i-n.false);
-    }
+pub renamed_vector-requires-clause-vector : goal.renamed_vector-requires-clause-vector
+renamed_vector-requires-clause-vector c = (checked_sound c.check.ensures c.in-Done.is, c.if-out-n.false)
 
 pub returns-in-Refused : goal.returns-in-Refused
 unfolding calls.relabel
@@ -40,6 +36,5 @@ returns-in-Refused c = refused_alike _ _ _ refl c.check.ensures c.in-Refused.is
 pub returns-else-out-n : goal.returns-else-out-n
 unfolding answers.reads answers.number_of
 returns-else-out-n c = let S = checked_sound c.check.ensures c.in-Done.is in
-    let same = c.if-p-n.false in
-    let f = no_value_fault _ _ _ same c.permutation_fault-i.ensures.1 c.if-i-n.false in
-    full_list _ _ (relabel_made _ _ S same f) (renamed_count _ _ S.valid same f) c.if-out-n.false c.renamed_vector.ensures
+    let f = c.in_default.ensures in
+    full_list _ _ (relabel_made _ _ S c.if-p-n.false f) (renamed_count _ _ S.valid c.if-p-n.false f) c.if-out-n.false c.renamed_vector.ensures

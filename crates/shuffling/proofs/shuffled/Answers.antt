@@ -1,6 +1,5 @@
 -- `shuffled` meets its contract: new labels and vector are built in local arrays and copied out.
 use mathlib.Core.Path.{refl}
-use lib.ListN.{length-take}
 use native.Mathlib.Omega.{arith}
 use Rattle.renaming.specs.VectorRows.{RowsOf, rows_of}
 use Rattle.shuffling.specs.NewLabels.{NewLabels, rows_tabled, new_labels, labels_copied, vector_copied}
@@ -13,9 +12,6 @@ queue-requires c =
     let P = c.requires in
     (record { small = P.0.few; lefts = rows.lefts; rights = rows.rights; nodes_room = refl; labels_room = refl; room = omega (arith, P.0.few) }, rows_tabled rows)
 
-pub slice_bounds-rename_rows-end : goal.slice_bounds-rename_rows-end
-slice_bounds-rename_rows-end c = simp length-take (omega arith)
-
 pub rename_rows-requires : goal.rename_rows-requires
 rename_rows-requires c =
     let rows : RowsOf c.args.v.now c.rows_of.new.left c.rows_of.new.right =
@@ -24,11 +20,6 @@ rename_rows-requires c =
     new_labels _ _ rows c.queue.ensures in
     let P = c.requires in
     let N = labels in record { rows_of = (rows, P.0.few, omega (arith, P.0.few)); p_len = (N.count, N.no_fault) }
-
-pub copy-requires-2 : goal.copy-requires-2
-copy-requires-2 c = let P = c.requires in
-    let kept = c.rename_rows.auto in
-    (omega (arith, P.0.few), P.2)
 
 pub returns : goal.returns
 returns c =
