@@ -10,7 +10,7 @@ use Rattle.std.proofs.Math.Seq.{get_or-set_same, get_or-set_other, get_or-take, 
 use Rattle.rules.specs.declared.Clade.{Clade as Entry}
 use Rattle.basics.proofs.Cases.{by_lt, by_eq}
 use Rattle.clade_passes.specs.Collected.{new_entry, one_more, add_entry}
-use Rattle.clade_batch.specs.Held.{most, entry_at, held_in, none, Batch, held_length, held_at, held_is}
+use Rattle.clade_batch.specs.Held.{most, entry_at, held_in, none, IsBatch, held_length, held_at, held_is}
 use Rattle.clade_batch.specs.Place.{Place, stands_at, stands, stands_not}
 use Rattle.clade_batch.specs.Moved.{Moved}
 
@@ -167,13 +167,13 @@ module _ {words : List ℕ} {m p : ℕ} (P : Place words (get_or words 8192 0) m
       rw (a, b) (sym (get_or-set_other (held_in words) p i (one_more (get_or (held_in words) p none)) none d ∙ held_at words i l)))
 
   -- it stands there: its count goes up by one
-  pub add_counted : Batch words → stands_at words (get_or words 8192 0) p m ≡ true → held_in (counted words p) ≡ take most (add_entry m (held_in words))
-  add_counted B e =
+  pub add_counted : IsBatch words → length words ≡ 8193 → stands_at words (get_or words 8192 0) p m ≡ true → held_in (counted words p) ≡ take most (add_entry m (held_in words))
+  add_counted B size e =
       let s = stands words (get_or words 8192 0) p m e in
       let few = B.few in
       let es = held_in words in
       let last = get_or-set_other words (2 * p + 1) 8192 (get_or words (2 * p + 1) 0 + 1) 0 (λ q. omega (arith, s.0)) in
       let n : length (set es p (one_more (get_or es p none))) ≡ get_or words 8192 0 = length-set es p (one_more (get_or es p none)) ∙ held_length words in
       let up : add_entry m es ≡ set es p (one_more (get_or es p none)) = add_up es m p (omega (arith, s.0, held_length words)) below (held_leaves words p s.0 ∙ s.1) in
-      held_is (counted words p) (set es p (one_more (get_or es p none))) (last ∙ sym n) (λ i l. counted_at (omega (arith, s.0)) B.size s.0 i (omega (arith, l, n)))
+      held_is (counted words p) (set es p (one_more (get_or es p none))) (last ∙ sym n) (λ i l. counted_at (omega (arith, s.0)) size s.0 i (omega (arith, l, n)))
       ∙ sym up ∙ sym (take_all most (add_entry m es) (omega (arith, ap length up, n)))

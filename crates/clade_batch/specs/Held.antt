@@ -1,5 +1,5 @@
 -- A batch of clades as words: leaf set and count in turn, in the last word how many.
--- Main definitions: most, entry_at, held_in, Batch. Main results: held_length, held_at, held_is, count_fits.
+-- Main definitions: most, entry_at, held_in, IsBatch. Main results: held_length, held_at, held_is, count_fits.
 use Rattle.std.specs.Prelude.{◌≡◌, refl, List, [], ◌∷◌, ℕ, zero, suc, ◌+◌, ◌*◌, ◌≤◌, ◌<◌, length, get_or, set}
 use Rattle.std.proofs.Common.{ap, ◌∙◌, subst, arith, length-set, ext_get_or, get_or-set_same, get_or-set_other}
 use Rattle.std.specs.Int.Count.{ones}
@@ -62,8 +62,7 @@ held_is words es k h =
     ext_get_or none (held_in words) es (held_length words ∙ k) (λ i l. let g : i < get_or words 8192 0 = omega (arith, l, k, held_length words) in held_at words i g ∙ h i (omega (arith, g, k)))
 
 -- the words are those of a batch: its leaf sets rise, and each count has room for one more
-pub record Batch (words : List ℕ) : Type 0 where
-  pub size : length words ≡ 8193
+pub record IsBatch (words : List ℕ) : Type 0 where
   pub few : get_or words 8192 0 ≤ most
   pub rises : From 0 (leaves_of (held_in words))
   pub counts : Each (λ e. e.count ≤ 18446744073709551614) (held_in words)
@@ -75,7 +74,7 @@ most_at c (e ∷ es) M zero h = M.0
 most_at c (e ∷ es) M (suc i) h = most_at c es M.1 i (omega arith)
 
 -- so it is of each clade's word
-pub count_fits : {words : List ℕ} → Batch words → (i : ℕ) → i < get_or words 8192 0 → get_or words (2 * i + 1) 0 ≤ 18446744073709551614
+pub count_fits : {words : List ℕ} → IsBatch words → (i : ℕ) → i < get_or words 8192 0 → get_or words (2 * i + 1) 0 ≤ 18446744073709551614
 unfolding entry_at
 count_fits {words} B i h =
     subst (λ (e : Entry). e.count ≤ 18446744073709551614) (held_at words i h) (most_at 18446744073709551614 (held_in words) B.counts i (omega (arith, held_length words)))

@@ -1,5 +1,5 @@
 -- The place of a leaf set in a batch: below it are smaller ones, from it on none.
--- Main definitions: Rises, Place, stands_at, Bracket. Main results: words_rise, stands, guessed, bracket_up, bracket_down, bracket_end.
+-- Main definitions: Rises, Place, stands_at, Bracket. Main results: words_rise, stands, guessed, bracket_up, bracket_down.
 use Rattle.std.specs.Prelude.{◌≡◌, refl, Bool, true, false, cond, List, [], ◌∷◌, ℕ, zero, suc, ◌+◌, ◌*◌, ◌≤◌, ◌<◌, eqb, ltb, length, get_or}
 use Rattle.std.proofs.Common.{sym, ap, ◌∙◌, subst, true≢false, arith, ltb-true, eqb-true, lt-ltb}
 use Rattle.std.proofs.lemmas.Bool.{eqb-false}
@@ -53,14 +53,6 @@ pub record Bracket (words : List ℕ) (k m lo hi : ℕ) : Type 0 where
   pub below : (i : ℕ) → i < lo → get_or words (2 * i) 0 < m
   pub above : (i : ℕ) → hi ≤ i → i < k → m ≤ get_or words (2 * i) 0
 
-pub bracket_start : (words : List ℕ) (k m : ℕ) → Bracket words k m 0 k
-bracket_start words k m = record {
-  le = omega arith;
-  top = omega arith;
-  below = λ i h. absurd (omega arith);
-  above = λ i g h. absurd (omega arith);
-}
-
 pub bracket_up : {words : List ℕ} {k m lo hi : ℕ} (mid : ℕ) → Rises words k → Bracket words k m lo hi → mid < hi → get_or words (2 * mid) 0 < m → Bracket words k m (mid + 1) hi
 unfolding Rises
 bracket_up {words} {k} {m} {lo} {hi} mid up B h g = record {
@@ -77,13 +69,6 @@ bracket_down {words} {k} {m} {lo} {hi} mid up B a h g = record {
   top = omega (arith, B.top);
   below = B.below;
   above = λ i l n. by_lt mid i (λ q. omega (arith, up mid i q n, g)) (λ q. let e : mid ≡ i = omega arith in subst (λ (j : ℕ). m ≤ get_or words (2 * j) 0) e g);
-}
-
-pub bracket_end : {words : List ℕ} {k m lo hi : ℕ} → Bracket words k m lo hi → hi ≤ lo → Place words k m lo
-bracket_end {words} {k} {m} {lo} {hi} B h = record {
-  inside = omega (arith, B.le, B.top);
-  below = B.below;
-  above = λ i l n. B.above i (omega (arith, B.le)) n;
 }
 
 -- ---- what rises as a list rises by places
