@@ -20,18 +20,18 @@ returns-then-rows-wanted c = refused_early _ (wrong_rows _ _ (omega arith) c.if-
 
 pub returns-in-Err-Parent : goal.returns-in-Err-Parent
 unfolding answers.reads answers.number_of
-returns-in-Err-Parent c = let found = rw c.in-Err-Parent.field-0-is at c.in-Err-Parent.ensures in
-    refused_early _ (row_refused _ _ _ (omega arith) c.if-leaves-gt1024.false c.if-rows-wanted.false found) (rw c.in-Err-Parent.t-is at c.refuse-in-Err-Parent.ensures)
+returns-in-Err-Parent c = let found = rw (c.in-Err-Parent.field-0-is, ← c.in-Err-Parent.t-is) at c.in-Err-Parent.ensures in
+    refused_early _ (row_refused _ _ _ (omega arith) c.if-leaves-gt1024.false c.if-rows-wanted.false found) c.refuse-in-Err-Parent.ensures
 
 pub returns-in-Err-Child : goal.returns-in-Err-Child
 unfolding answers.reads answers.number_of
-returns-in-Err-Child c = let found = rw c.in-Err-Child.field-0-is at c.in-Err-Child.ensures in
-    refused_early _ (row_refused _ _ _ (omega arith) c.if-leaves-gt1024.false c.if-rows-wanted.false found) (rw c.in-Err-Child.t-is at c.refuse-in-Err-Child.ensures)
+returns-in-Err-Child c = let found = rw (c.in-Err-Child.field-0-is, ← c.in-Err-Child.t-is) at c.in-Err-Child.ensures in
+    refused_early _ (row_refused _ _ _ (omega arith) c.if-leaves-gt1024.false c.if-rows-wanted.false found) c.refuse-in-Err-Child.ensures
 
 pub returns-in-Err-NamedBefore : goal.returns-in-Err-NamedBefore
 unfolding answers.reads answers.number_of
-returns-in-Err-NamedBefore c = let found = rw c.in-Err-NamedBefore.field-0-is at c.in-Err-NamedBefore.ensures in
-    refused_early _ (row_refused _ _ _ (omega arith) c.if-leaves-gt1024.false c.if-rows-wanted.false found) (rw c.in-Err-NamedBefore.t-is at c.refuse-in-Err-NamedBefore.ensures)
+returns-in-Err-NamedBefore c = let found = rw (c.in-Err-NamedBefore.field-0-is, ← c.in-Err-NamedBefore.t-is) at c.in-Err-NamedBefore.ensures in
+    refused_early _ (row_refused _ _ _ (omega arith) c.if-leaves-gt1024.false c.if-rows-wanted.false found) c.refuse-in-Err-NamedBefore.ensures
 
 pub returns-in-Ok : goal.returns-in-Ok
 returns-in-Ok c = let read = c.in-Ok.ensures in
