@@ -1,9 +1,11 @@
 -- One pass over an archive, tree by tree: after r trees the batch has the least of their clades.
--- Main definitions: Given, Passing, Passed, Rooms. Main results: passing_start, passing_roomy, record_bytes, passing_next, passing_refused, passing_end,
+-- Main definitions: Given, PassedAll, StoppedAt, Passed, Passing. Main results: passing_start, passing_roomy, record_bytes, passing_next, passing_refused, passing_end,
 -- one_leaf_passed, two_leaves_passed, no_pairs, pairs_held, pairs_below.
-use Rattle.std.specs.Prelude.{◌≡◌, ◌≢◌, true, false, ℕ, suc, ◌+◌, ◌-◌, ◌*◌, ◌≤◌, ◌<◌, drop, replicate}
+use Rattle.record_entries.specs.declared.EntryFault.{EntryFault}
+use Rattle.std.specs.Prelude.{Option, None, Some, Result, Ok, Err, true, false, ◌≡◌, ◌≢◌, ℕ, suc, ◌+◌, ◌-◌, ◌*◌, ◌≤◌, ◌<◌, drop, replicate}
 use Rattle.std.proofs.Math.Path.{refl, sym, ap}
-use Rattle.std.proofs.Common.{ap₂, ◌∙◌, add-one, arith, lt-ltb, le-ltb, length-take, length-drop}
+use Rattle.std.specs.Result.{is_err}
+use Rattle.std.proofs.Common.{true≢false, ap₂, ◌∙◌, add-one, arith, lt-ltb, le-ltb, length-take, length-drop}
 use mathlib.Core.List.{List, [], ◌∷◌, ◌++◌}
 use Rattle.std.proofs.Math.Nat.{suc-mul, mul-le-mul}
 use Rattle.std.specs.Int.Count.{ones}
@@ -14,7 +16,6 @@ use Rattle.rules.specs.Answer.{made, refuses}
 use Rattle.rules.specs.CladeTable.{clade_table, trees_of}
 use Rattle.rules.specs.CallCladeTable.{record_in, vectors_in}
 use Rattle.archive_laws.proofs.Framed.{record_ends}
-use Rattle.merges.specs.Room.{list_room}
 use Rattle.tree_reading.specs.Gives.{bare_made}
 use Rattle.clade_laws.specs.Rising.{From}
 use Rattle.clade_laws.specs.Entries.{Each, leaves_of}
@@ -36,13 +37,23 @@ pub record Given (s : List ℕ) (n trees : ℕ) : Type 0 where
   pub counted : trees < 2097152
   pub whole : length s ≡ implied_length n trees
 
--- r is the number of the first tree that is refused, or of all; then the batch has the least clades above the bound
-pub record Passed (s : List ℕ) (n trees bound : ℕ) (words : List ℕ) (r : ℕ) : Type 0 where
+-- all trees can be read, and the batch has the least clades above the bound
+pub record PassedAll (s : List ℕ) (n trees bound : ℕ) (words : List ℕ) : Type 0 where
   pub vectors : List (List ℕ)
-  pub high : r ≤ trees
+  pub read : vectors_in n s trees ≡ made vectors
+  pub held : held_in words ≡ batch most bound (clade_table (trees_of vectors))
+
+-- tree r is the first that is refused
+pub record StoppedAt (s : List ℕ) (n trees r : ℕ) : Type 0 where
+  pub vectors : List (List ℕ)
+  pub inside : r < trees
   pub read : vectors_in n s r ≡ made vectors
-  pub refused : r < trees → (number : ℕ) × (place : ℕ) × (record_in n s r ≡ refuses number place)
-  pub held : r ≡ trees → held_in words ≡ batch most bound (clade_table (trees_of vectors))
+  pub refused : (number : ℕ) × (place : ℕ) × (record_in n s r ≡ refuses number place)
+
+-- whether a tree is refused, and which is the first
+abbrev pub Passed : List ℕ → ℕ → ℕ → ℕ → List ℕ → Option ℕ → Type 0
+Passed s n trees bound words None = PassedAll s n trees bound words
+Passed s n trees bound words (Some r) = StoppedAt s n trees r
 
 -- the first r trees are added, and the next record starts at `at`
 pub record Passing (s : List ℕ) (n trees size bound : ℕ) (words : List ℕ) (at r : ℕ) : Type 0 where
@@ -50,20 +61,18 @@ pub record Passing (s : List ℕ) (n trees size bound : ℕ) (words : List ℕ) 
   pub wide : size ≡ bare_length n
   pub high : r ≤ trees
   pub here : at ≡ implied_length n r
-  pub words_there : length words ≡ 8193
   pub vectors : List (List ℕ)
   pub read : vectors_in n s r ≡ made vectors
   pub held : held_in words ≡ collected most bound [] (archive_sets vectors)
 
-pub passing_start : {s : List ℕ} {n trees size bound : ℕ} {words : List ℕ} → Given s n trees → size ≡ bare_length n → length words ≡ 8193 → held_in words ≡ []
+pub passing_start : {s : List ℕ} {n trees size bound : ℕ} {words : List ℕ} → Given s n trees → size ≡ bare_length n → held_in words ≡ []
     → Passing s n trees size bound words 4 0
 unfolding implied_length vectors_in archive_sets collected
-passing_start {n = n} G w l e = record {
+passing_start {n = n} G w e = record {
   given = G;
   wide = w;
   high = omega arith;
   here = omega arith;
-  words_there = l;
   vectors = [];
   read = refl;
   held = e;
@@ -81,7 +90,6 @@ module _ {s : List ℕ} {n trees size bound : ℕ} {words : List ℕ} {at r : �
       let k : length l ≤ 4294967296 =
       omega (arith, length_archive_sets n P.vectors v.1 ∙ ap (λ (x : ℕ). x * (n - 1)) v.0, mul-le-mul r-few n-few) in
       record {
-        size = P.words_there;
         few = omega (arith, held_length words, ap length P.held, collected_length most bound l [] (omega arith));
         rises = rw P.held (collected_rises most bound l [] tt);
         counts = rw P.held
@@ -101,15 +109,15 @@ module _ {s : List ℕ} {n trees size bound : ℕ} {words : List ℕ} {at r : �
       let e : at + size - at ≡ bare_length n = omega (arith, P.wide) in
       ap (bare_made n) (sym (ap₂ (λ (k i : ℕ). take k (drop i s)) e P.here))
 
-  pub passing_next : {words' : List ℕ} → r < trees → length words' ≡ length words → TreeAdded n (take (at + size - at) (drop at s)) bound words words' true
+  pub passing_next : {words' : List ℕ} (a : Result (Unit {0}) EntryFault) → is_err a ≡ false → r < trees → TreeAdded n (take (at + size - at) (drop at s)) bound words words' a
       → Passing s n trees size bound words' (at + size) (r + 1)
   unfolding implied_length
-  passing_next {words'} h l A = record {
+  passing_next (Err _) e h A = absurd (true≢false e)
+  passing_next {words'} (Ok _) e h A = record {
     given = P.given;
     wide = P.wide;
     high = omega arith;
     here = rw (add-one r) (omega (arith, P.here, P.wide, suc-mul r (bare_length n)));
-    words_there = l ∙ P.words_there;
     vectors = P.vectors ++ (A.0 ∷ []);
     read = rw (add-one r) (vectors_next n s r P.vectors A.0 P.read (record_in_bytes ∙ A.1));
     held =
@@ -118,45 +126,36 @@ module _ {s : List ℕ} {n trees size bound : ℕ} {words : List ℕ} {at r : �
         ∙ ap (collected most bound []) (sym (archive_sets_append P.vectors A.0));
   }
 
-  pub passing_refused : {words' : List ℕ} → r < trees → TreeAdded n (take (at + size - at) (drop at s)) bound words words' false → Passed s n trees bound words' r
-  passing_refused h A = record {
-    vectors = P.vectors;
-    high = P.high;
-    read = P.read;
-    refused = λ g. (A.0, A.1, record_in_bytes ∙ A.2);
-    held = λ e. absurd (omega (arith, h, e));
-  }
+  pub passing_refused : (words' : List ℕ) (a : Result (Unit {0}) EntryFault) → is_err a ≡ true → r < trees → TreeAdded n (take (at + size - at) (drop at s)) bound words words' a → StoppedAt s n trees r
+  passing_refused words' (Ok _) e h A = absurd (true≢false (sym e))
+  passing_refused words' (Err _) e h A = record { vectors = P.vectors; inside = h; read = P.read; refused = (A.0, A.1, record_in_bytes ∙ A.2) }
 
-  pub passing_end : trees ≤ r → Passed s n trees bound words r
-  passing_end h = record {
-    vectors = P.vectors;
-    high = P.high;
-    read = P.read;
-    refused = λ g. absurd (omega (arith, h, g));
-    held = λ e. P.held ∙ one_pass most bound n s r P.vectors P.given.some P.read;
-  }
+  pub passing_end : trees ≤ r → PassedAll s n trees bound words
+  passing_end h =
+      let e : r ≡ trees = omega (arith, P.high) in
+      record {
+        vectors = P.vectors;
+        read = ap (vectors_in n s) (sym e) ∙ P.read;
+        held = P.held ∙ one_pass most bound n s r P.vectors P.given.some P.read;
+      }
 
 -- ---- records without bytes
-pub one_leaf_passed : {s : List ℕ} {n trees bound : ℕ} {words : List ℕ} → n ≡ 1 → held_in words ≡ [] → Passed s n trees bound words trees
+pub one_leaf_passed : {s : List ℕ} {n trees bound : ℕ} {words : List ℕ} → n ≡ 1 → held_in words ≡ [] → PassedAll s n trees bound words
 one_leaf_passed {s} {n} {trees} {bound} {words} e h = record {
   vectors = replicate trees (0 ∷ []);
-  high = omega arith;
   read = rw e (vectors_of_one s trees);
-  refused = λ g. absurd (omega arith);
-  held = λ q. h ∙ sym (ap (batch most bound) (one_leaf_table trees) ∙ no_batch);
+  held = h ∙ sym (ap (batch most bound) (one_leaf_table trees) ∙ no_batch);
 }
   where
     no_batch : batch most bound [] ≡ []
     no_batch = unfold batch in refl
 
 pub two_leaves_passed : {s : List ℕ} {n trees bound : ℕ} {words : List ℕ} → n ≡ 2 → held_in words ≡ batch most bound (clade_table (trees_of (replicate trees (0 ∷ 0 ∷ []))))
-    → Passed s n trees bound words trees
+    → PassedAll s n trees bound words
 two_leaves_passed {s} {n} {trees} e h = record {
   vectors = replicate trees (0 ∷ 0 ∷ []);
-  high = omega arith;
   read = rw e (vectors_of_two s trees);
-  refused = λ g. absurd (omega arith);
-  held = λ q. h;
+  held = h;
 }
 
 -- the batch of trees of two leaves
@@ -184,12 +183,3 @@ pairs_below words trees bound d l h = h ∙ sym (some_pairs trees bound (omega (
   where
     passed : batch most bound (both trees ∷ []) ≡ []
     passed = unfold batch in unfold above in rw (le-ltb bound 3 l) refl
-
--- ---- the lists that a pass works in
-pub record Rooms (vector list small clusters sets guesses : List ℕ) : Type 0 where
-  pub vectors : length vector ≡ 64
-  pub lists : length list ≡ list_room
-  pub smaller : length small ≡ 1024
-  pub merged : length clusters ≡ 64
-  pub leaf_sets : length sets ≡ 64
-  pub guessed : length guesses ≡ 8192

@@ -1,20 +1,17 @@
 // One pass over an archive: the least clades above a bound, with the number of trees that have them.
 #![tactic(auto)]
 
-ghost use Rattle.std.specs.Prelude.{◌≡◌, ◌<◌, ◌≤◌, length, replicate, [], ◌∷◌};
+ghost use Rattle.std.specs.Prelude.{◌≡◌, ◌<◌, ◌≤◌, length, []};
 ghost use Rattle.rules.specs.Archive.{bare_length};
-ghost use Rattle.rules.specs.CladeTable.{clade_table, trees_of};
-ghost use Rattle.merges.specs.Room.{list_room};
-ghost use Rattle.clade_passes.specs.Passes.{batch};
-ghost use Rattle.clade_batch.specs.Held.{most, held_in};
+ghost use Rattle.clade_pass.specs.Pass.{Given, Passed, pairs};
+ghost use Rattle.clade_batch.specs.Held.{held_in};
 ghost use Rattle.clade_batch.specs.AddAll.{Roomy};
 ghost use Rattle.leaf_sets.specs.Bits.{Bits};
-ghost use Rattle.clade_pass.specs.Tree.{IsRead, TreeAdded};
-ghost use Rattle.clade_pass.specs.Pass.{Given, Passed};
+ghost use Rattle.clade_pass.specs.Tree.{TreeAdded};
 
 use archive::HEADER_BYTES;
-use clade_batch::GUESSES;
-use record_entries::Contents;
+use clade_batch::Batch;
+use record_entries::{EntryFault, read_entries};
 
 // As many leaves as a tree in a clade table has, and so many words.
 const LEAVES: usize = 64;
@@ -25,108 +22,110 @@ const BYTES_FROM: usize = 3;
 // The leaf set of leaves 0 and 1.
 const BOTH: u64 = 3;
 
-// Reads the entries of a record without its n, and checks them and the padding: whether they are a vector.
-fn read_record(bytes: &[u8], n: usize, vector: &mut [u16]) -> bool
-    requires { (1 ≤ n) × (n ≤ 64) × (length bytes.now ≡ bare_length n) × (length vector.old ≡ 64) }
-    ensures { IsRead n bytes.now vector.new result }
-{
-    match record_entries::read_entries(bytes, 0, n, vector) {
-        Contents::Entries => true,
-        Contents::Entry(_) => false,
-        Contents::Padding => false,
-    }
+/// The trees of an archive with a right header and its implied length: so many, of n leaves each.
+#[derive(Drop)]
+pub struct Trees<'a> {
+    pub archive: &'a [u8],
+    pub n: usize,
+    pub count: usize,
+    pub ghost given: { Given archive.now n count },
 }
 
-// The clades of the tree of a record are added to the batch: whether the record is one of a vector. The other lists are room to work in.
+// What the leaf sets of a tree are made in: its vector, the list of its merges and their smaller names, the clusters, and the sets.
+#[derive(Drop)]
+struct Room {
+    vector: [u16; LEAVES],
+    list: [u16; merges::ROOM],
+    small: [u16; 1024],
+    clusters: [u64; LEAVES],
+    sets: [u64; LEAVES],
+}
+
+// The clades of the tree of a record without its n are added to the batch, where its entries and its padding are those of a vector.
 fn add_tree(
     bytes: &[u8],
     n: usize,
     bound: u64,
-    bits: &[u64],
-    vector: &mut [u16],
-    list: &mut [u16],
-    small: &mut [u16],
-    clusters: &mut [u64],
-    sets: &mut [u64],
-    words: &mut [u64],
-    guesses: &mut [u16],
-) -> bool
-    requires le_n { (1 ≤ n) × (n ≤ 64) × (length bytes.now ≡ bare_length n) × (length bits.now ≡ 64) × Bits 64 bits.now }
-    requires vector_len { (length vector.old ≡ 64) × (length list.old ≡ list_room) × (length small.old ≡ 1024) × (length clusters.old ≡ 64) × (length sets.old ≡ 64) }
-    requires roomy { Roomy words.old × (length guesses.old ≡ 8192) }
-    ensures { TreeAdded n bytes.now bound words.old words.new result }
+    bits: &[u64; LEAVES],
+    room: &mut Room,
+    batch: &mut Batch,
+) -> Result<(), EntryFault>
+    requires le_n { (1 ≤ n) × (n ≤ 64) × (length bytes.now ≡ bare_length n) × Bits 64 bits.now }
+    requires roomy { Roomy batch.old.words }
+    ensures { TreeAdded n bytes.now bound batch.old.words batch.new.words result }
 {
-    if read_record(bytes, n, vector) {
-        leaf_sets::sets_of(&vector[..n], bits, list, small, clusters, sets);
-        clade_batch::add_all(words, guesses, sets, n - 1, bound);
-        return true;
-    }
-    false
+    read_entries(bytes, 0, n, &mut room.vector)?;
+    leaf_sets::sets_of(
+        &room.vector[..n],
+        bits,
+        &mut room.list,
+        &mut room.small,
+        &mut room.clusters,
+        &mut room.sets,
+    );
+    batch.add_all(&room.sets[..n - 1], bound);
+    Ok(())
 }
 
-// The clades of the trees of records of so many bytes each, tree by tree: the number of the first that is refused, or how many there are.
-fn add_trees(s: &[u8], n: usize, trees: usize, size: usize, bound: u64, words: &mut [u64]) -> usize
-    requires { Given s.now n trees × (size ≡ bare_length n) × (length words.old ≡ 8193) × (held_in words.old ≡ []) }
-    ensures { Passed s.now n trees bound words.new result }
+// The clades of the trees, one after another: the number of the first that is refused.
+fn add_trees(trees: &Trees, bound: u64, batch: &mut Batch) -> Option<usize>
+    requires { held_in batch.old.words ≡ [] }
+    ensures { Passed trees.now.archive.now trees.now.n trees.now.count bound batch.new.words result }
 {
     let mut bits = [0u64; LEAVES];
-    let mut vector = [0u16; LEAVES];
-    let mut list = [0u16; merges::ROOM];
-    let mut small = [0u16; 1024];
-    let mut clusters = [0u64; LEAVES];
-    let mut sets = [0u64; LEAVES];
-    let mut guesses = [0u16; GUESSES];
     leaf_sets::leaf_bits(&mut bits);
+    let mut room = Room {
+        vector: [0u16; LEAVES],
+        list: [0u16; merges::ROOM],
+        small: [0u16; 1024],
+        clusters: [0u64; LEAVES],
+        sets: [0u64; LEAVES],
+    };
+    let size = archive::bare_length(trees.n);
     let mut at: usize = HEADER_BYTES;
-    let mut r: usize = 0;
-    while r < trees {
+    for r in 0..trees.count {
         let next = at + size;
-        if !add_tree(
-            &s[at..next],
-            n,
+        if add_tree(
+            &trees.archive[at..next],
+            trees.n,
             bound,
             &bits,
-            &mut vector,
-            &mut list,
-            &mut small,
-            &mut clusters,
-            &mut sets,
-            words,
-            &mut guesses,
-        ) {
-            return r;
+            &mut room,
+            batch,
+        )
+        .is_err()
+        {
+            return Some(r);
         }
         at = next;
-        r += 1;
     }
-    r
+    None
 }
 
 // So many trees of two leaves have one clade.
-fn add_pairs(trees: usize, bound: u64, words: &mut [u64])
-    requires { (trees < 2097152) × (length words.old ≡ 8193) × (held_in words.old ≡ []) }
-    ensures { held_in words.new ≡ batch most bound (clade_table (trees_of (replicate trees (0 ∷ 0 ∷ [])))) }
+fn add_pairs(count: usize, bound: u64, batch: &mut Batch)
+    requires { (count < 2097152) × (held_in batch.old.words ≡ []) }
+    ensures { held_in batch.new.words ≡ pairs count bound }
 {
-    if trees == 0 {
+    if count == 0 {
         return;
     }
     if bound < BOTH {
-        clade_batch::hold_one(words, BOTH, trees as u64);
+        batch.hold_one(BOTH, count as u64);
     }
 }
 
-/// One pass: the least clades above a bound into words. The result is the number of the first tree that is refused, or how many there are.
+/// One pass: the least clades above a bound into a batch. The result is the number of the first tree that is refused.
 /// Records without bytes are all alike, so one look tells all.
-pub fn pass(s: &[u8], n: usize, trees: usize, bound: u64, words: &mut [u64]) -> usize
-    requires { Given s.now n trees × (length words.old ≡ 8193) }
-    ensures { Passed s.now n trees bound words.new result }
+pub fn pass(trees: &Trees, bound: u64, batch: &mut Batch) -> Option<usize>
+    ensures { Passed trees.now.archive.now trees.now.n trees.now.count bound batch.new.words result }
 {
-    clade_batch::clear(words);
-    if BYTES_FROM <= n {
-        return add_trees(s, n, trees, archive::bare_length(n), bound, words);
+    batch.clear();
+    if BYTES_FROM <= trees.n {
+        return add_trees(trees, bound, batch);
     }
-    if n == 2 {
-        add_pairs(trees, bound, words);
+    if trees.n == 2 {
+        add_pairs(trees.count, bound, batch);
     }
-    trees
+    None
 }

@@ -1,31 +1,24 @@
 -- `add_tree` meets its contract: the leaf sets of the vector that is read are added.
-use lib.ListN.{length-take}
-use Rattle.clade_pass.specs.Tree.{read_vector, tree_added}
+use Rattle.tree_reading.specs.Gives.{bare_filled}
+use Rattle.clade_pass.specs.Tree.{not_read, read_vector, tree_added}
+use Rattle.std.proofs.lemmas.Result.{err_from_is_err_and}
 use native.Mathlib.Omega.{arith}
 use Rattle.clade_pass.proofs.add_tree.Goals as goal
 
-pub slice_bounds-sets_of-end-then-read_record : goal.slice_bounds-sets_of-end-then-read_record
-slice_bounds-sets_of-end-then-read_record c = simp length-take (omega arith)
+pub read_entries-requires : goal.read_entries-requires
+read_entries-requires c = let p = c.requires.le_n in (bare_filled c.args.bytes.now c.args.n p.0 (omega (arith, p.1)) p.2, omega (arith, p.1))
 
-pub sets_of-requires : goal.sets_of-requires
-sets_of-requires c = let h = c.requires in
-    let v = read_vector c.args.bytes.now
-    c.read_record.new.vector h.le_n.0 h.le_n.1 (rw c.if-read_record.true at
-    c.read_record.ensures) in record { vector = (v.0, omega (arith, v.1, h.le_n.1), h.le_n.3, h.le_n.4); list_len = (h.vector_len.1, h.vector_len.2, h.vector_len.3, h.vector_len.4) }
+pub returns-in_err-read_entries : goal.returns-in_err-read_entries
+returns-in_err-read_entries c = let p = c.requires.le_n in
+    let e = err_from_is_err_and c.from_residual.result c.from_residual.ensures.1 in
+    rw e.1 (not_read c.args.bytes.now p.0 p.1 p.2 c.read_entries.new.vector _ c.in_err-read_entries.ensures)
 
-pub add_all-requires : goal.add_all-requires
-add_all-requires c = let h = c.requires in
-    (h.roomy.0, omega (arith, h.le_n.1), omega (arith, h.le_n.1, h.vector_len.4, c.sets_of.auto.sets), h.roomy.1)
-
-pub returns-then-read_record : goal.returns-then-read_record
-returns-then-read_record c = let h = c.requires in
-    let a = c.args in
-    let xs = c.read_record.new.vector in
-    let e = rw c.if-read_record.true at
-    c.read_record.ensures in
-    let v = read_vector a.bytes.now xs h.le_n.0 h.le_n.1 e in
-    tree_added a.bytes.now xs a.bound a.words.now c.add_all.new.words c.sets_of.new.sets e
-    v.1 c.sets_of.ensures c.add_all.ensures
+pub sets_of-requires-clause-vector : goal.sets_of-requires-clause-vector
+sets_of-requires-clause-vector c = let p = c.requires.le_n in
+    let v = read_vector c.args.bytes.now p.0 p.1 p.2 _ c.in_ok-read_entries.ensures in
+    (v.0, omega (arith, v.1, p.1), omega arith, p.3)
 
 pub returns : goal.returns
-returns c = rw c.if-read_record.false at c.read_record.ensures
+returns c = let p = c.requires.le_n in
+    tree_added c.args.bytes.now p.0 p.1 p.2 _ c.in_ok-read_entries.ensures c.args.bound c.args.batch.now.words c.add_all.new.self.words c.sets_of.new.sets
+    c.sets_of.ensures c.add_all.ensures
