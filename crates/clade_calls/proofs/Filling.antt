@@ -33,9 +33,9 @@ pub data Filling (s : List ℕ) (old : List Clade) (a : Answer) (i : ℕ) (held 
   filling : {k : ℕ} → reads a ≡ done k → Tabled s → length (table s) ≤ length old → i ≤ length (table s) → held_in held ≡ batch_at most ((i - 1) / most) (table s)
       → new ≡ take i (table s) ++ drop i old → Filling s old a i held new
 
-pub start : (s : List ℕ) (old : List Clade) (a : Answer) (held : List ℕ) → Checked s (length old) a held → length held ≡ 8193 → Filling s old a 0 held old
-start s old a held (stopped e N h) l = refusing e N h refl refl
-start s old a held (fits e R f h) l = filling e R f (omega arith) h refl
+pub start : (s : List ℕ) (old : List Clade) (a : Answer) (held : List ℕ) → Checked s (length old) a held → Filling s old a 0 held old
+start s old a held (stopped e N h) = refusing e N h refl refl
+start s old a held (fits e R f h) = filling e R f (omega arith) h refl
 
 -- each count of the table fits into 32 bits
 each_at : (c : ℕ) (es : List Clade) → Each (λ e. (1 ≤ e.count) × (e.count ≤ c)) es → (i : ℕ) → i < length es → (get_or es i none).count ≤ c
@@ -90,9 +90,9 @@ module _ {s : List ℕ} {old : List Clade} {a : Answer} {i : ℕ} {held : List �
   kept (refusing e N h z n) = ap length n
   kept (filling e R l h b n) = ap length n ∙ written_length (table s) old i h l
 
-  pub asked : Filling s old a i held new → length held ≡ 8193 → Ready s i held
-  asked (refusing e N h z n) l = record { size = l; header = λ g. absurd (omega (arith, g, z)) }
-  asked (filling e R l h b n) k = record { size = k; header = λ g. R.given }
+  pub asked : Filling s old a i held new → Ready s i
+  asked (refusing e N h z n) = record { header = λ g. absurd (omega (arith, g, z)) }
+  asked (filling e R l h b n) = record { header = λ g. R.given }
 
   pub inside : Filling s old a i held new → (held' : List ℕ) → Readied s i held true held' → i < length new
   inside (refusing e N h z n) held' r = absurd (true≢false (r.at_start z h))
@@ -100,9 +100,9 @@ module _ {s : List ℕ} {old : List Clade} {a : Answer} {i : ℕ} {held : List �
       let g : i < length (table s) = ltb-true i (length (table s)) (sym (r.behind R h b).0) in
       omega (arith, g, l, ap length n ∙ written_length (table s) old i h l)
 
-  pub next : Filling s old a i held new → (held' : List ℕ) → Readied s i held true held' → length held' ≡ 8193 → Filling s old a (i + 1) held' (set new i (held_entry held' i))
-  next (refusing e N h z n) held' r k = absurd (true≢false (r.at_start z h))
-  next (filling e R l h b n) held' r k =
+  pub next : Filling s old a i held new → (held' : List ℕ) → Readied s i held true held' → Filling s old a (i + 1) held' (set new i (held_entry held' i))
+  next (refusing e N h z n) held' r = absurd (true≢false (r.at_start z h))
+  next (filling e R l h b n) held' r =
       let q = r.behind R h b in
       let g : i < length (table s) = ltb-true i (length (table s)) (sym q.0) in
       let z : i / most ≡ (i + 1 - 1) / most = omega arith in

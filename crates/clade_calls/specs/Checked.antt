@@ -1,7 +1,7 @@
 -- What the check of an archive says before the first entry is written.
 -- Main definitions: table, Tabled, Headed, FirstBatch, NoTable, Checked, Roomed. Main results: table_made, short_archive, no_leaf, many_leaves, table_leaves, wrong_length,
 -- tree-refused (each refusal); room_checked, enough_checked, again_checked (where all trees can be read).
-use Rattle.std.specs.Prelude.{◌≡◌, refl, ◌≢◌, List, [], ℕ, ◌-◌, ◌*◌, ◌≤◌, ◌<◌, ltb, get_or}
+use Rattle.std.specs.Prelude.{Option, None, ◌≡◌, refl, ◌≢◌, List, [], ℕ, ◌-◌, ◌*◌, ◌≤◌, ◌<◌, ltb, get_or}
 use Rattle.std.proofs.Common.{sym, ap₂, ◌∙◌, arith, lt-ltb, le-ltb}
 use Rattle.std.proofs.Math.Path.{ap}
 use Rattle.std.proofs.Math.ListN.{length}
@@ -23,7 +23,7 @@ use Rattle.clade_passes.proofs.Archive.{vectors_refused}
 use Rattle.clade_passes.specs.Batches.{batch_at}
 use Rattle.clade_passes.proofs.Batches.{last_batch}
 use Rattle.clade_batch.specs.Held.{most, held_in, held_length}
-use Rattle.clade_pass.specs.Pass.{Given, Passed}
+use Rattle.clade_pass.specs.Pass.{Given, PassedAll, StoppedAt, Passed}
 use Rattle.clade_entries.specs.Table.{Readable, table_of, table_of_lem, table_first, table_fits, passed_all, all_read}
 
 -- the table of an archive, by its header
@@ -36,7 +36,6 @@ Tabled s = Readable s (leaf_count s) (trees_in s)
 
 -- n and the tree count are those of a right header
 pub record Headed (s : List ℕ) (n trees : ℕ) : Type 0 where
-  pub given : Given s n trees
   pub leaves : n ≡ leaf_count s
   pub count : trees ≡ trees_in s
 
@@ -45,7 +44,6 @@ pub record FirstBatch (s : List ℕ) (n trees : ℕ) (held : List ℕ) : Type 0 
   pub readable : Readable s n trees
   pub leaves : n ≡ leaf_count s
   pub count : trees ≡ trees_in s
-  pub size : length held ≡ 8193
   pub first : held_in held ≡ batch_at most 0 (table_of s n trees)
 
 module _ {s : List ℕ} {n trees : ℕ} {held : List ℕ} (B : FirstBatch s n trees held) where
@@ -58,17 +56,18 @@ module _ {s : List ℕ} {n trees : ℕ} {held : List ℕ} (B : FirstBatch s n tr
   pub first_held : held_in held ≡ batch_at most 0 (table s)
   first_held = B.first ∙ ap (batch_at most 0) same_table
 
-pub by_header : {s : List ℕ} {n trees : ℕ} → Headed s n trees → Given s (leaf_count s) (trees_in s)
-by_header H = rw (H.leaves, H.count) at H.given
+by_header : {s : List ℕ} {n trees : ℕ} → Given s n trees → Headed s n trees → Given s (leaf_count s) (trees_in s)
+by_header G H = rw (H.leaves, H.count) at G
 
-pub passed_header : {s : List ℕ} {n trees bound : ℕ} {held : List ℕ} {r : ℕ} → n ≡ leaf_count s → trees ≡ trees_in s → Passed s n trees bound held r → Passed s (leaf_count s) (trees_in s) bound held r
-passed_header a b P = rw (a, b) at P
+pub passed_header : (s : List ℕ) {n trees : ℕ} (bound : ℕ) (held : List ℕ) (r : Option ℕ) → n ≡ leaf_count s → trees ≡ trees_in s → Passed s n trees bound held r
+    → Passed s (leaf_count s) (trees_in s) bound held r
+passed_header s bound held r a b P = rw (a, b) at P
 
 -- a pass went through all trees
-pub passed_first : {s : List ℕ} {n trees : ℕ} {held : List ℕ} {r : ℕ} → Headed s n trees → Passed s n trees 0 held r → trees ≤ r → length held ≡ 8193 → FirstBatch s n trees held
-passed_first H P h l =
-    let R = all_read H.given P h in
-    record { readable = R; leaves = H.leaves; count = H.count; size = l; first = passed_all R P ∙ table_first R }
+pub passed_first : {s : List ℕ} {n trees : ℕ} {held : List ℕ} → Given s n trees → Headed s n trees → PassedAll s n trees 0 held → FirstBatch s n trees held
+passed_first {held = held} G H P =
+    let R = all_read G P in
+    record { readable = R; leaves = H.leaves; count = H.count; first = passed_all R 0 held None P ∙ table_first R }
 
 -- why there is no table: the archive is refused, or the room is too small
 pub data NoTable (s : List ℕ) (room : ℕ) : ℕ → ℕ → Type 0 where
@@ -128,11 +127,14 @@ module _ (s : List ℕ) where
   table_made R = trees_next R.given ∙ rw R.read (ap made (sym (table_of_lem R)))
 
   -- the first tree that is refused is what the archive is refused for, and what the reader says of it
-  pub tree_stopped : {room : ℕ} {a : Answer} {held held' : List ℕ} {r : ℕ} (old new : List ℕ) → Given s n (trees_in s) → Passed s n (trees_in s) 0 held r → r < trees_in s
+  pub tree_stopped : {room : ℕ} {a : Answer} {held' : List ℕ} {n' trees r : ℕ} (old new : List ℕ) → Given s n' trees → Headed s n' trees → StoppedAt s n' trees r
       → Keeps (read_tree_call s r) old a new → held_in held' ≡ [] → Checked s room a held'
   unfolding following record_in answers
-  tree_stopped {room} {a} {held} {held'} {r} old new G P h K e =
-      let q = P.refused h in
+  tree_stopped {room} {a} {held'} {r = r} old new given H stop K e =
+      let G = by_header given H in
+      let P : StoppedAt s n (trees_in s) r = rw (H.leaves, H.count) at stop in
+      let h = P.inside in
+      let q = P.refused in
       let F : HasTree s r = record { some_leaf = G.some; few = omega (arith, G.few); whole = G.whole; below = h } in
       let w : read_tree s r ≡ refuses q.0 q.1 = reader_inside s r F ∙ q.2 in
       let v : vectors_in n s (trees_in s) ≡ refuses q.0 q.1 = vectors_refused n s r (trees_in s) q.0 q.1 P.vectors P.read q.2 h in
@@ -163,5 +165,5 @@ module _ {s : List ℕ} (R : Tabled s) where
   enough_checked l e h = fits e R (omega (arith, l, table_fits R)) h
 
   -- the first batch once more
-  pub again_checked : {room : ℕ} {a : Answer} {held : List ℕ} {k r : ℕ} → k ≡ length (table s) → k ≤ room → reads a ≡ done k → Passed s (leaf_count s) (trees_in s) 0 held r → Checked s room a held
-  again_checked q l e P = fits e R (omega (arith, l, q)) (passed_all R P ∙ table_first R)
+  pub again_checked : {room : ℕ} {a : Answer} (held : List ℕ) {k : ℕ} (r : Option ℕ) → k ≡ length (table s) → k ≤ room → reads a ≡ done k → Passed s (leaf_count s) (trees_in s) 0 held r → Checked s room a held
+  again_checked held r q l e P = fits e R (omega (arith, l, q)) (passed_all R 0 held r P ∙ table_first R)

@@ -15,8 +15,7 @@ use Rattle.clade_entries.specs.Next.{Follows}
 use Rattle.clade_calls.specs.Checked.{table, Tabled}
 
 -- before entry i: behind the first entry the archive has a right header
-pub record Ready (s : List ℕ) (i : ℕ) (held : List ℕ) : Type 0 where
-  pub size : length held ≡ 8193
+pub record Ready (s : List ℕ) (i : ℕ) : Type 0 where
   pub header : 1 ≤ i → Given s (leaf_count s) (trees_in s)
 
 -- the batch of entry i is loaded, where that of the entry before it was held

@@ -1,6 +1,6 @@
 -- An archive all of whose trees can be read, and its clade table.
 -- Main definitions: table_of, Readable. Main results: table_of_lem, table_rises, table_first, table_fits, table_few, passed_all, all_read.
-use Rattle.std.specs.Prelude.{◌≡◌, List, [], ℕ, ◌-◌, ◌*◌, ◌≤◌, length}
+use Rattle.std.specs.Prelude.{Option, None, Some, ◌≡◌, List, [], ℕ, ◌-◌, ◌*◌, ◌≤◌, length}
 use Rattle.std.proofs.Math.Path.{refl}
 use Rattle.std.proofs.Common.{sym, ap, ◌∙◌, mul-le-mul, arith}
 use Rattle.rules.specs.declared.Clade.{Clade as Entry}
@@ -19,7 +19,7 @@ use Rattle.clade_passes.specs.Batches.{batch_at}
 use Rattle.clade_passes.proofs.Batches.{first_batch}
 use Rattle.clade_passes.proofs.Bounds.{trees_table_length}
 use Rattle.clade_batch.specs.Held.{most, held_in}
-use Rattle.clade_pass.specs.Pass.{Given, Passed}
+use Rattle.clade_pass.specs.Pass.{Given, PassedAll, Passed}
 
 -- the entries that were made, none where it was refused
 unfoldable pub entries_made : Making (List Entry) → List Entry
@@ -62,19 +62,13 @@ module _ {s : List ℕ} {n trees : ℕ} (R : Readable s n trees) where
       omega (arith, table_fits, mul-le-mul a b)
 
   -- a pass goes to the end of such an archive
-  pub passed_all : {bound : ℕ} {words : List ℕ} {r : ℕ} → Passed s n trees bound words r → held_in words ≡ batch most bound (table_of s n trees)
-  passed_all {bound} {words} {r} P = go (by_end P.high)
-    where
-      go : r ≡ trees → held_in words ≡ batch most bound (table_of s n trees)
-      go e = P.held e ∙ ap (λ (vs : List (List ℕ)). batch most bound (clade_table (trees_of vs))) (made_same (sym P.read ∙ ap (vectors_in n s) e ∙ R.read)) ∙ ap (batch most bound) (sym table_of_lem)
-
-      by_end : r ≤ trees → r ≡ trees
-      by_end h = by_lt r trees
-          (λ l. let q = P.refused l in absurd (made_not_refuses (sym R.read ∙ vectors_refused n s r trees q.0 q.1 P.vectors P.read q.2 l)))
-          (λ g. omega (arith, g, h))
+  pub passed_all : (bound : ℕ) (words : List ℕ) (r : Option ℕ) → Passed s n trees bound words r → held_in words ≡ batch most bound (table_of s n trees)
+  passed_all bound words None P =
+      P.held ∙ ap (λ (vs : List (List ℕ)). batch most bound (clade_table (trees_of vs))) (made_same (sym P.read ∙ R.read)) ∙ ap (batch most bound) (sym table_of_lem)
+  passed_all bound words (Some r) P =
+      let q = P.refused in
+      absurd (made_not_refuses (sym R.read ∙ vectors_refused n s r trees q.0 q.1 P.vectors P.read q.2 P.inside))
 
 -- an archive that a pass went through
-pub all_read : {s : List ℕ} {n trees bound : ℕ} {words : List ℕ} {r : ℕ} → Given s n trees → Passed s n trees bound words r → trees ≤ r → Readable s n trees
-all_read {s} {n} {trees} {r = r} G P h =
-    let e : r ≡ trees = omega (arith, P.high) in
-    record { given = G; vectors = P.vectors; read = ap (vectors_in n s) (sym e) ∙ P.read }
+pub all_read : {s : List ℕ} {n trees bound : ℕ} {words : List ℕ} → Given s n trees → PassedAll s n trees bound words → Readable s n trees
+all_read G P = record { given = G; vectors = P.vectors; read = P.read }

@@ -7,12 +7,9 @@ use Rattle.clade_calls.specs.Checked.{tabled, first_held, room_checked, first_al
 use native.Mathlib.Omega.{arith}
 use Rattle.clade_calls.proofs.check_room.Goals as goal
 
-pub number_held-first-requires : goal.number_held-first-requires
-number_held-first-requires c = c.requires.size
-
 pub returns-then-first-lt-MOST : goal.returns-then-first-lt-MOST
 returns-then-first-lt-MOST c = let B = c.requires in
-    room_checked (tabled B) (first_all (tabled B) c.args.held.now (first_held B) c.number_held-first.ensures
+    room_checked (tabled B) (first_all (tabled B) c.args.held.now.words (first_held B) c.number_held-first.ensures
     c.if-first-lt-MOST.true) (first_held B) c.answer_room.ensures
 
 -- trees times (n-1) is a small number
@@ -26,6 +23,6 @@ room-product {n} {trees} h l =
 pub overflow_mul-trees : goal.overflow_mul-trees
 overflow_mul-trees c = let B = c.requires in record { fits = omega (arith, room-product B.readable.given.counted B.readable.given.few) }
 
-pub returns-then-trees-n : goal.returns-then-trees-n
+pub returns-then-trees-room : goal.returns-then-trees-room
 unfolding reads
-returns-then-trees-n c = let B = c.requires in enough_checked (tabled B) (rw (B.leaves, B.count) at c.if-trees-n.true) refl (first_held B)
+returns-then-trees-room c = let B = c.requires in enough_checked (tabled B) (rw (B.leaves, B.count) at c.if-trees-room.true) refl (first_held B)

@@ -29,27 +29,22 @@ returns-then-n-gt-TABLE_LEAVES c = let e = c.leaf_count-n.ensures in
     c.clear.ensures
 
 pub implied_length-wanted-requires : goal.implied_length-wanted-requires
-implied_length-wanted-requires c = (omega (arith, c.if-n-eq0.false), omega (arith, c.if-n-gt-TABLE_LEAVES.false), rw c.tree_count-trees.ensures (trees_lt c.args.archive.now))
+implied_length-wanted-requires c = (omega (arith, c.if-n-eq0.false), omega (arith, c.if-n-gt-TABLE_LEAVES.false), rw c.tree_count-count.ensures (trees_lt c.args.archive.now))
 
 pub returns-then-archive-wanted : goal.returns-then-archive-wanted
 unfolding number_of
 returns-then-archive-wanted c = let e = c.leaf_count-n.ensures in
-    let w = c.implied_length-wanted.ensures ∙ ap₂ implied_length e c.tree_count-trees.ensures in
+    let w = c.implied_length-wanted.ensures ∙ ap₂ implied_length e c.tree_count-count.ensures in
     stopped (c.refuse-then-archive-wanted.ensures ∙ ap (refused 2) w) (of_archive (length_refused c.args.archive.now
     c.if-archive-lt-HEADER_BYTES.false (rw e at c.if-n-eq0.false) (rw e at c.if-n-gt-TABLE_LEAVES.false)
     (λ q. c.if-archive-wanted.true (q ∙ sym w)))) c.clear.ensures
 
-pub check_trees-requires : goal.check_trees-requires
-check_trees-requires c = let e = c.leaf_count-n.ensures in (
-  record {
-    given = record {
-      some = omega (arith, c.if-n-eq0.false);
-      few = c.if-n-gt-TABLE_LEAVES.false;
-      counted = rw c.tree_count-trees.ensures (trees_lt c.args.archive.now);
-      whole = c.if-archive-wanted.false ∙ c.implied_length-wanted.ensures;
-    };
-    leaves = e;
-    count = c.tree_count-trees.ensures;
-  },
-  c.held-1.given ∙ c.requires,
-)
+pub invariant_of-check_trees : goal.invariant_of-check_trees
+invariant_of-check_trees c = record {
+  given = record {
+    some = omega (arith, c.if-n-eq0.false);
+    few = c.if-n-gt-TABLE_LEAVES.false;
+    counted = rw c.tree_count-count.ensures (trees_lt c.args.archive.now);
+    whole = c.if-archive-wanted.false ∙ c.implied_length-wanted.ensures;
+  };
+}

@@ -4,11 +4,11 @@ use Rattle.clade_calls.proofs.Filling as filling
 use Rattle.clade_calls.proofs.clade_table.Goals as goal
 
 pub loop-held-init : goal.loop-held-init
-loop-held-init c = filling.start _ _ _ _ c.checked-answer.ensures c.checked-answer.auto.held
+loop-held-init c = filling.start _ _ _ _ c.checked-answer.ensures
 
 pub loop-held-preserved : goal.loop-held-preserved
 loop-held-preserved c = rw c.entry.ensures
-    (filling.next c.loop-held.invariant c.ready.new.held (rw c.loop-held-test.true at c.ready.ensures) (omega arith))
+    (filling.next c.loop-held.invariant c.ready.new.held.words (rw c.loop-held-test.true at c.ready.ensures))
 
 pub returns : goal.returns
-returns c = filling.ends c.loop-held.invariant c.ready.new.held c.finish.result (rw c.loop-held-test.false at c.ready.ensures) c.finish.ensures
+returns c = filling.ends c.loop-held.invariant c.ready.new.held.words c.finish.result (rw c.loop-held-test.false at c.ready.ensures) c.finish.ensures

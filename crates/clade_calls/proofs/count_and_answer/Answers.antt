@@ -6,7 +6,7 @@ use Rattle.clade_calls.specs.Checked.{tabled, same_table, short_checked, again_c
 use Rattle.clade_calls.proofs.count_and_answer.Goals as goal
 
 pub count_entries-needed-requires : goal.count_entries-needed-requires
-count_entries-needed-requires c = let B = c.requires in (B.readable, B.size, B.first)
+count_entries-needed-requires c = let B = c.requires in record { readable = B.readable; first = B.first }
 
 pub returns-then-room-needed : goal.returns-then-room-needed
 returns-then-room-needed c = let B = c.requires in
@@ -16,5 +16,5 @@ returns-then-room-needed c = let B = c.requires in
 pub returns : goal.returns
 unfolding reads
 returns c = let B = c.requires in
-    again_checked (tabled B) (c.count_entries-needed.ensures ∙ ap length (same_table B)) c.if-room-needed.false refl
-    (passed_header B.leaves B.count c.pass.ensures)
+    again_checked (tabled B) c.pass.new.batch.words c.pass.result (c.count_entries-needed.ensures ∙ ap length (same_table B)) c.if-room-needed.false refl
+    (passed_header c.args.trees.now.archive.now 0 c.pass.new.batch.words c.pass.result B.leaves B.count c.pass.ensures)
