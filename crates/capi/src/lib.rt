@@ -21,18 +21,14 @@ ghost use Rattle.rules.specs.Coded.{coded, Hands};
 use rules::{Answer, Clade};
 
 // The two numbers of an answer.
+#[tactic(auto, unfolding(rules::specs::Coded::coded, rules::specs::Answer::reads))]
 fn hand_back(given: Answer, back: &mut [u64; 2])
     ensures { back.new ≡ coded (reads given) }
 {
-    match given {
-        Answer::Done(count) => {
-            *back = [0, count as u64];
-        }
-        Answer::Refused(why) => {
-            let kind = why.kind;
-            *back = [refusal_numbers::number_of(kind), why.place as u64];
-        }
-    }
+    *back = match given {
+        Answer::Done(count) => [0, count as u64],
+        Answer::Refused(why) => [refusal_numbers::number_of(why.kind), why.place as u64],
+    };
 }
 
 // Whether v is a vector.
