@@ -3,7 +3,7 @@
 // write that fails ends the run.
 #![tactic(auto)]
 
-ghost use Rattle.std.specs.Prelude.{◌≡◌, ◌≤◌, length, take};
+ghost use Rattle.std.specs.Prelude.{◌≡◌, ◌≤◌, take};
 ghost use Rattle.io.specs.Counts.{IsPrefixLen};
 ghost use Rattle.rules.specs.Listing.{most_records};
 ghost use Rattle.holding.specs.Wanted.{bytes_wanted};
@@ -18,11 +18,8 @@ fn main() {
 }
 
 // Of what is lent to every record, held is for its bytes, vector for its entries and out for its line.
-fn list(held: &mut [u8], vector: &mut [u16], out: &mut [u8])
-    requires { (1280 ≤ length held.old) × (1024 ≤ length vector.old) × (10624 ≤ length out.old) }
-{
-    let mut left = most_records();
-    while 0 < left {
+fn list(held: &mut [u8; 1280], vector: &mut [u16; 1024], out: &mut [u8; 10624]) {
+    for _ in 0..most_records() {
         let k = read_record(held);
         if k == 0 {
             return;
@@ -37,7 +34,6 @@ fn list(held: &mut [u8], vector: &mut [u16], out: &mut [u8])
         if !io::write_all(1, &out[..end]) {
             return;
         }
-        left -= 1;
     }
 }
 
@@ -49,9 +45,9 @@ fn most_records() -> u32
 }
 
 // Reads the next record and nothing behind it, and answers how many bytes of it there are: none where the input ends before it, and
-// fewer than are wanted where the input ends inside it.
-fn read_record(held: &mut [u8]) -> usize
-    requires { 1280 ≤ length held.old }
+// fewer than are wanted where the input ends inside it. The kit's crate io reads and writes here, since the second clause is of its words.
+#[tactic(auto, using(holding::proofs::Wanted::wanted_within))]
+fn read_record(held: &mut [u8; 1280]) -> usize
     ensures { IsPrefixLen result held.new × (result ≤ bytes_wanted (take result held.new)) }
 {
     let got = io::read_full(0, &mut held[..2]);

@@ -11,6 +11,7 @@ ghost use Rattle.digits.specs.Wrote.{Wrote};
 use rules::Answer;
 
 /// Writes the line of a valid vector to the front of `out`, and answers its length. A line has at most 10,624 bytes.
+#[tactic(auto, using(crate::proofs::Parts::text_room))]
 pub fn write_line(v: &[u16], out: &mut [u8]) -> usize
     requires { Vector v.now × (10624 ≤ length out.old) }
     ensures { Wrote (line_of v.now) 0 out.old out.new result }
