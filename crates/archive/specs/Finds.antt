@@ -1,7 +1,7 @@
 -- What an archive says of a tree, by what frames the tree's record.
 -- Main definitions: IsPart, IsRecord, Finds, part_bytes. Main results: no_leaf_found, many_leaves_found, length_found, no_tree_found,
 -- record_found (what the tests show); part_start, part_length, part_ends, part_size, part_bytes_lem (the part that is found).
-use Rattle.std.specs.Prelude.{◌≡◌, List, ◌≢◌, ℕ, ◌+◌, ◌-◌, ◌≤◌, ◌<◌, length, take, drop}
+use Rattle.std.specs.Prelude.{◌≡◌, List, ◌≢◌, ℕ, ◌+◌, ◌-◌, ◌≤◌, ◌<◌, length, take, drop, Result, Ok, Err}
 use Rattle.std.proofs.Common.{sym, ap, ap₂, subst, ◌∙◌, length-take, length-drop}
 use native.Mathlib.Omega.{arith}
 use Rattle.rules.specs.Record.{leaf_count}
@@ -10,8 +10,8 @@ use Rattle.archive_laws.specs.Framed.{leafless, crowded, unfit, absent}
 use Rattle.archive_laws.proofs.Framed.{record_ends}
 use Rattle.archive_laws.specs.Reader.{HasTree, NoTree as Refused}
 use Rattle.rules.specs.declared.Part.{Part}
-use Rattle.archive.specs.declared.Found.{Found}
-use Rattle.archive.specs.declared.Found.TheVariants.{Record, Length, LeafCount, NoTree}
+use Rattle.archive.specs.declared.ArchiveFault.{ArchiveFault}
+use Rattle.archive.specs.declared.ArchiveFault.TheVariants.{Length, LeafCount, NoTree}
 
 -- the part that is record r of an archive of n leaves
 abbrev pub IsPart : ℕ → ℕ → Part → Type 0
@@ -22,11 +22,11 @@ abbrev pub IsRecord : List ℕ → ℕ → ℕ → Part → Type 0
 IsRecord s r n part = (n ≡ leaf_count s) × HasTree s r × IsPart n r part
 
 -- each answer
-abbrev pub Finds : List ℕ → ℕ → Found → Type 0
-Finds s r (Record n part) = IsRecord s r n part
-Finds s r (Length wanted) = Refused s r 2 wanted
-Finds s r LeafCount = Refused s r 1 0
-Finds s r NoTree = Refused s r 12 r
+abbrev pub Finds : List ℕ → ℕ → Result (ℕ × Part) ArchiveFault → Type 0
+Finds s r (Ok found) = IsRecord s r found.0 found.1
+Finds s r (Err (Length wanted)) = Refused s r 2 wanted
+Finds s r (Err LeafCount) = Refused s r 1 0
+Finds s r (Err (NoTree number)) = Refused s r 12 number
 
 -- what the tests of an archive with a header show, one after another
 module _ (s : List ℕ) (r : ℕ) {n : ℕ} (header : 4 ≤ length s) (leaves : n ≡ leaf_count s) where

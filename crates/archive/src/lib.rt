@@ -16,14 +16,12 @@ const COUNTS: u64 = 2097152;
 /// The most leaves that a tree has.
 pub const MOST_LEAVES: usize = 1024;
 
-/// What an archive says of a tree: its leaf count, and which part the tree's record is; or that the archive's length is wrong, with the one
-/// wanted; or that its leaf count is; or that there is no such tree.
-#[derive(Drop)]
-pub enum Found {
-    Record(usize, Part),
+/// Why an archive has no tree: its length is wrong, with the one wanted; or its leaf count is; or it has no tree of that number.
+#[derive(Clone, Copy)]
+pub enum ArchiveFault {
     Length(usize),
     LeafCount,
-    NoTree,
+    NoTree(usize),
 }
 
 /// The tree count of an archive.
@@ -61,27 +59,24 @@ fn record_part(n: usize, tree: usize) -> Part
     }
 }
 
-/// Which part of an archive a tree's record is, or why there is none.
-pub fn find(s: &[u8], tree: usize) -> Found
+/// The leaf count of an archive, and which part of it a tree's record is; or why there is none.
+pub fn find(s: &[u8], tree: usize) -> Result<(usize, Part), ArchiveFault>
     ensures { Finds s.now tree result }
 {
     if s.len() < HEADER_BYTES {
-        return Found::Length(HEADER_BYTES);
+        return Err(ArchiveFault::Length(HEADER_BYTES));
     }
     let n = lengths::leaf_count(s);
-    if n == 0 {
-        return Found::LeafCount;
-    }
-    if MOST_LEAVES < n {
-        return Found::LeafCount;
+    if n == 0 || MOST_LEAVES < n {
+        return Err(ArchiveFault::LeafCount);
     }
     let count = tree_count(s);
     let wanted = implied_length(n, count);
     if s.len() != wanted {
-        return Found::Length(wanted);
+        return Err(ArchiveFault::Length(wanted));
     }
     if count <= tree {
-        return Found::NoTree;
+        return Err(ArchiveFault::NoTree(tree));
     }
-    Found::Record(n, record_part(n, tree))
+    Ok((n, record_part(n, tree)))
 }

@@ -8,7 +8,7 @@ ghost use Rattle.rules.specs.CallReadTree.{read_tree_call};
 use answering::{hand_out, refuse};
 use archive::MOST_LEAVES;
 use rules::{Answer, Kind};
-use tree_reading::TreeRead;
+use tree_reading::TreeFault;
 
 // The view is a part and no answer: by its place, and as bytes.
 pub use archive_view::{part, view};
@@ -21,10 +21,7 @@ const MOST_TREES: usize = 2097151;
 pub fn write_archive(leaves: usize, entries: &[u16], out: &mut [u8]) -> Answer
     ensures { Keeps (write_archive_call leaves entries.now) out.old result out.new }
 {
-    if leaves == 0 {
-        return refuse(Kind::LeafCount, 0);
-    }
-    if MOST_LEAVES < leaves {
+    if leaves == 0 || MOST_LEAVES < leaves {
         return refuse(Kind::LeafCount, 0);
     }
     let size = entries.len();
@@ -52,11 +49,11 @@ pub fn read_tree(archive: &[u8], tree: usize, out: &mut [u16]) -> Answer
 {
     let mut vector = [0u16; 1024];
     match tree_reading::read_tree(archive, tree, &mut vector) {
-        TreeRead::Length(wanted) => refuse(Kind::InputLength, wanted),
-        TreeRead::LeafCount => refuse(Kind::LeafCount, 0),
-        TreeRead::NoTree(number) => refuse(Kind::TreeNumber, number),
-        TreeRead::Entry(i) => refuse(Kind::Entry, i),
-        TreeRead::Padding(place) => refuse(Kind::Padding, place),
-        TreeRead::Entries(n) => hand_out(&vector, n, out),
+        Err(TreeFault::Length(wanted)) => refuse(Kind::InputLength, wanted),
+        Err(TreeFault::LeafCount) => refuse(Kind::LeafCount, 0),
+        Err(TreeFault::NoTree(number)) => refuse(Kind::TreeNumber, number),
+        Err(TreeFault::Entry(i)) => refuse(Kind::Entry, i),
+        Err(TreeFault::Padding(place)) => refuse(Kind::Padding, place),
+        Ok(n) => hand_out(&vector, n, out),
     }
 }

@@ -5,7 +5,6 @@ ghost use Rattle.std.specs.Prelude.{◌≡◌};
 ghost use Rattle.rules.specs.CallView.{view};
 ghost use Rattle.archive_view.specs.Shows.{Shows};
 
-use archive::Found;
 use rules::Part;
 
 /// The part of an archive that is a tree's record: no byte where there is no such tree, or the archive is refused.
@@ -13,8 +12,8 @@ pub fn part(s: &[u8], tree: usize) -> Part
     ensures { Shows s.now tree result }
 {
     match archive::find(s, tree) {
-        Found::Record(_, place) => place,
-        _ => Part {
+        Ok((_, place)) => place,
+        Err(_) => Part {
             start: 0,
             length: 0,
         },

@@ -7,7 +7,7 @@ ghost use Rattle.rules.specs.CallUnpack.{unpack_call};
 
 use answering::{hand_out, refuse};
 use rules::{Answer, Kind};
-use unpacking::Unpacked;
+use unpacking::RecordFault;
 use vector_calls::check;
 
 /// Vector to packed record: 1, 4, 3.
@@ -33,10 +33,10 @@ pub fn unpack(s: &[u8], out: &mut [u16]) -> Answer
 {
     let mut vector = [0u16; 1024];
     match unpacking::read_vector(s, &mut vector) {
-        Unpacked::Length(wanted) => refuse(Kind::InputLength, wanted),
-        Unpacked::LeafCount => refuse(Kind::LeafCount, 0),
-        Unpacked::Entry(i) => refuse(Kind::Entry, i),
-        Unpacked::Padding(place) => refuse(Kind::Padding, place),
-        Unpacked::Entries(n) => hand_out(&vector, n, out),
+        Err(RecordFault::Length(wanted)) => refuse(Kind::InputLength, wanted),
+        Err(RecordFault::LeafCount) => refuse(Kind::LeafCount, 0),
+        Err(RecordFault::Entry(i)) => refuse(Kind::Entry, i),
+        Err(RecordFault::Padding(place)) => refuse(Kind::Padding, place),
+        Ok(n) => hand_out(&vector, n, out),
     }
 }

@@ -1,6 +1,6 @@
 -- What is read of a tree, by what the public call makes of it.
 -- Main definitions: Gives, bare_made. Main results: bare_filled, entry_above, padding_set, entries_right (what bytes make); record_made.
-use Rattle.std.specs.Prelude.{true, List, [], ◌∷◌, ◌++◌, ◌≡◌, ℕ, zero, suc, ◌+◌, ◌-◌, ◌≤◌, length, take, drop, Ok}
+use Rattle.std.specs.Prelude.{true, List, [], ◌∷◌, ◌++◌, ◌≡◌, ℕ, zero, suc, ◌+◌, ◌-◌, ◌≤◌, length, take, drop, Result, Ok, Err}
 use Rattle.std.proofs.lemmas.Bool.{false≢true}
 use Rattle.std.proofs.Math.Option.{none, some}
 use Rattle.std.proofs.Common.{sym, ap, ◌∙◌, zero-add, arith}
@@ -18,17 +18,25 @@ use Rattle.record_entries.specs.Contains.{Contains}
 use Rattle.record_entries.specs.Makes.{entry_made, padding_made, entries_made}
 use Rattle.rules.specs.declared.Part.{Part}
 use Rattle.archive.specs.Finds.{IsRecord, part_bytes, part_bytes_lem}
-use Rattle.tree_reading.specs.declared.TreeRead.{TreeRead}
-use Rattle.tree_reading.specs.declared.TreeRead.TheVariants.{Entries, Length, LeafCount, NoTree, Entry, Padding}
+use Rattle.archive.specs.declared.ArchiveFault.{ArchiveFault}
+use Rattle.archive.specs.declared.ArchiveFault.TheVariants as archives
+use Rattle.tree_reading.specs.declared.TreeFault.{TreeFault}
+use Rattle.tree_reading.specs.declared.TreeFault.TheVariants.{Length, LeafCount, NoTree, Entry, Padding}
 
 -- each answer, where m is to be made; vector is the array that was read into
-abbrev pub Gives : Made → List ℕ → TreeRead → Type 0
-Gives m vector (Entries n) = (n ≤ length vector) × (m ≡ made (take n vector))
-Gives m vector (Length wanted) = m ≡ refuses 2 wanted
-Gives m vector LeafCount = m ≡ refuses 1 0
-Gives m vector (NoTree r) = m ≡ refuses 12 r
-Gives m vector (Entry i) = m ≡ refuses 4 i
-Gives m vector (Padding place) = m ≡ refuses 10 place
+abbrev pub Gives : Made → List ℕ → Result ℕ TreeFault → Type 0
+Gives m vector (Ok n) = (n ≤ length vector) × (m ≡ made (take n vector))
+Gives m vector (Err (Length wanted)) = m ≡ refuses 2 wanted
+Gives m vector (Err LeafCount) = m ≡ refuses 1 0
+Gives m vector (Err (NoTree r)) = m ≡ refuses 12 r
+Gives m vector (Err (Entry i)) = m ≡ refuses 4 i
+Gives m vector (Err (Padding place)) = m ≡ refuses 10 place
+
+-- what is wrong with an archive, of a tree
+abbrev pub tree_fault : ArchiveFault → TreeFault
+tree_fault (archives.Length wanted) = Length wanted
+tree_fault archives.LeafCount = LeafCount
+tree_fault (archives.NoTree r) = NoTree r
 
 -- what the bytes of a record without its n make: as those of a record with it
 abbrev pub bare_made : ℕ → List ℕ → Made

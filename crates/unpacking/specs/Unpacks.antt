@@ -1,6 +1,6 @@
 -- What a record gives, by what the public call makes of it.
 -- Main definition: Unpacks. Main results: length_wrong, head_right; headed_filled, entry_above, padding_set, entries_right.
-use Rattle.std.specs.Prelude.{true, List, ◌≢◌, ◌≡◌, ℕ, ◌+◌, ◌-◌, ◌≤◌, length, take, Ok}
+use Rattle.std.specs.Prelude.{true, List, ◌≢◌, ◌≡◌, ℕ, ◌+◌, ◌-◌, ◌≤◌, length, take, Result, Ok, Err}
 use Rattle.std.proofs.Math.Option.{none, some}
 use Rattle.std.proofs.Common.{sym, ◌∙◌}
 use Rattle.std.proofs.Math.Path.{ap}
@@ -19,16 +19,16 @@ use Rattle.record_laws.proofs.FromRecord.{headed, wrong_record}
 use Rattle.record.specs.Filled.{Filled}
 use Rattle.record_entries.specs.Contains.{Contains}
 use Rattle.record_entries.specs.Makes.{entry_made, padding_made, entries_made}
-use Rattle.unpacking.specs.declared.Unpacked.{Unpacked}
-use Rattle.unpacking.specs.declared.Unpacked.TheVariants.{Entries, Length, LeafCount, Entry, Padding}
+use Rattle.unpacking.specs.declared.RecordFault.{RecordFault}
+use Rattle.unpacking.specs.declared.RecordFault.TheVariants.{Length, LeafCount, Entry, Padding}
 
 -- each answer; vector is the array that was read into
-abbrev pub Unpacks : List ℕ → List ℕ → Unpacked → Type 0
-Unpacks s vector (Entries n) = (n ≤ length vector) × (unpack s ≡ made (take n vector))
-Unpacks s vector (Length wanted) = unpack s ≡ refuses 2 wanted
-Unpacks s vector LeafCount = unpack s ≡ refuses 1 0
-Unpacks s vector (Entry i) = unpack s ≡ refuses 4 i
-Unpacks s vector (Padding place) = unpack s ≡ refuses 10 place
+abbrev pub Unpacks : List ℕ → List ℕ → Result ℕ RecordFault → Type 0
+Unpacks s vector (Ok n) = (n ≤ length vector) × (unpack s ≡ made (take n vector))
+Unpacks s vector (Err (Length wanted)) = unpack s ≡ refuses 2 wanted
+Unpacks s vector (Err LeafCount) = unpack s ≡ refuses 1 0
+Unpacks s vector (Err (Entry i)) = unpack s ≡ refuses 4 i
+Unpacks s vector (Err (Padding place)) = unpack s ≡ refuses 10 place
 
 -- a leaf count that is right, and the length that it wants
 module _ (s : List ℕ) {n wanted : ℕ} (two_bytes : 2 ≤ length s) (count : n ≡ leaf_count s) (some_leaf : n ≢ 0) (few : n ≤ 1024)

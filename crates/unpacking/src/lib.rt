@@ -1,53 +1,51 @@
 // A packed record, read: its vector, or why it is refused.
 #![tactic(auto)]
 
-ghost use Rattle.std.specs.Prelude.{◌≡◌, length};
 ghost use Rattle.record_laws.specs.FromRecord.{Headed};
 ghost use Rattle.unpacking.specs.Unpacks.{Unpacks};
 
+use lengths::COUNT_BITS;
 use record_entries::{EntryFault, read_entries};
 
-// What a record gives: a vector with so many entries; or that its length is wrong, with the one wanted; or that its leaf count is;
-// or the first entry above its bound; or that a padding bit is set, with the number of the last byte.
-#[derive(Drop)]
-pub enum Unpacked {
-    Entries(usize),
+// The most leaves that a tree has.
+const MOST_LEAVES: usize = 1024;
+
+/// Why a record gives no vector: its length is wrong, with the one wanted; or its leaf count is; or the first entry above its bound; or a
+/// padding bit is set, with the number of the last byte.
+#[derive(Clone, Copy)]
+pub enum RecordFault {
     Length(usize),
     LeafCount,
     Entry(usize),
     Padding(usize),
 }
 
-// Reads the entries of a record of n leaves into vector, and checks them and the padding.
-fn read_headed(s: &[u8], n: usize, vector: &mut [u16]) -> Unpacked
-    requires { Headed s.now n × (length vector.old ≡ 1024) }
+// Reads the entries of a record of n leaves into vector, and checks them and the padding: how many there are.
+fn read_headed(s: &[u8], n: usize, vector: &mut [u16; 1024]) -> Result<usize, RecordFault>
+    requires { Headed s.now n }
     ensures { Unpacks s.now vector.new result }
 {
-    match read_entries(s, lengths::COUNT_BITS as usize, n, vector) {
-        Ok(()) => Unpacked::Entries(n),
-        Err(EntryFault::Entry(i)) => Unpacked::Entry(i),
-        Err(EntryFault::Padding) => Unpacked::Padding(s.len() - 1),
+    match read_entries(s, COUNT_BITS as usize, n, vector) {
+        Ok(()) => Ok(n),
+        Err(EntryFault::Entry(i)) => Err(RecordFault::Entry(i)),
+        Err(EntryFault::Padding) => Err(RecordFault::Padding(s.len() - 1)),
     }
 }
 
-// Reads a record: its vector, at the front of vector, or why it gives none.
-pub fn read_vector(s: &[u8], vector: &mut [u16]) -> Unpacked
-    requires { length vector.old ≡ 1024 }
+/// Reads a record: its vector, at the front of vector, and how many entries it has, or why it gives none.
+pub fn read_vector(s: &[u8], vector: &mut [u16; 1024]) -> Result<usize, RecordFault>
     ensures { Unpacks s.now vector.new result }
 {
     if s.len() < 2 {
-        return Unpacked::Length(2);
+        return Err(RecordFault::Length(2));
     }
     let n = lengths::leaf_count(s);
-    if n == 0 {
-        return Unpacked::LeafCount;
-    }
-    if 1024 < n {
-        return Unpacked::LeafCount;
+    if n == 0 || MOST_LEAVES < n {
+        return Err(RecordFault::LeafCount);
     }
     let wanted = lengths::record_length(n);
     if s.len() != wanted {
-        return Unpacked::Length(wanted);
+        return Err(RecordFault::Length(wanted));
     }
     read_headed(s, n, vector)
 }

@@ -10,6 +10,7 @@ use Rattle.accepting.proofs.Kept.{refused_early, short_room, full_list}
 use Rattle.archive_laws.proofs.Writer.{write_no_leaf, write_many_leaves, write_too_many, write_in_parts, write_above, write_accepted}
 use Rattle.archive_calls.proofs.Counted.{Counted, trees_most, whole_most, next_most}
 use Rattle.archive_calls.proofs.write_archive.Goals as goal
+use Rattle.archive_calls.proofs.write_archive.Goals.{then-leaves-eq0-via-then-leaves-eq0, then-leaves-eq0-via-else-leaves-eq0+then-leaves-gt-MOST_LEAVES}
 
 -- behind the checks of the counts
 counted : (n : ℕ) (xs : List ℕ) → 1 ≤ n → n ≤ 1024 → length xs ≤ 2097151 * n → Counted n xs
@@ -17,11 +18,11 @@ counted n xs h l f = record { some_leaf = h; few_leaves = l; few = f }
 
 pub returns-then-leaves-eq0 : goal.returns-then-leaves-eq0
 unfolding answers.number_of
-returns-then-leaves-eq0 c = refused_early _ (write_no_leaf _ _ c.if-leaves-eq0.true) c.refuse.ensures
-
-pub returns-then-leaves-gt-MOST_LEAVES : goal.returns-then-leaves-gt-MOST_LEAVES
-unfolding answers.number_of
-returns-then-leaves-gt-MOST_LEAVES c = refused_early _ (write_many_leaves _ _ c.if-leaves-gt-MOST_LEAVES.true) c.refuse-then-leaves-gt-MOST_LEAVES.ensures
+returns-then-leaves-eq0 c =
+    elim c.then-leaves-eq0.branch [
+      | then-leaves-eq0-via-then-leaves-eq0 w ↦ refused_early _ (write_no_leaf _ _ w.if-leaves-eq0.true) c.refuse.ensures
+      | then-leaves-eq0-via-else-leaves-eq0+then-leaves-gt-MOST_LEAVES w ↦ refused_early _ (write_many_leaves _ _ w.if-leaves-gt-MOST_LEAVES.true) c.refuse.ensures
+    ]
 
 pub returns-then-leaves-size : goal.returns-then-leaves-size
 unfolding answers.number_of

@@ -3,24 +3,21 @@ use Rattle.rules.specs.Answer as answers
 use Rattle.accepting.proofs.Kept.{refused_early, handed_on}
 use Rattle.record_calls.proofs.unpack.Goals as goal
 
-pub hand_out-requires : goal.hand_out-requires
-hand_out-requires c = (rw c.in-Entries.is at c.read_vector.ensures).0
-
-pub returns-in-Length : goal.returns-in-Length
+pub returns-in-Err-Length : goal.returns-in-Err-Length
 unfolding answers.reads answers.number_of
-returns-in-Length c = refused_early _ (rw c.in-Length.is at c.read_vector.ensures) c.refuse.ensures
+returns-in-Err-Length c = refused_early _ (rw c.in-Err-Length.field-0-is at c.in-Err-Length.ensures) (rw c.in-Err-Length.wanted-is at c.refuse.ensures)
 
-pub returns-in-LeafCount : goal.returns-in-LeafCount
+pub returns-in-Err-LeafCount : goal.returns-in-Err-LeafCount
 unfolding answers.reads answers.number_of
-returns-in-LeafCount c = refused_early _ (rw c.in-LeafCount.is at c.read_vector.ensures) c.refuse-in-LeafCount.ensures
+returns-in-Err-LeafCount c = refused_early _ (rw c.in-Err-LeafCount.field-0-is at c.in-Err-LeafCount.ensures) c.refuse-in-Err-LeafCount.ensures
 
-pub returns-in-Entry : goal.returns-in-Entry
+pub returns-in-Err-Entry : goal.returns-in-Err-Entry
 unfolding answers.reads answers.number_of
-returns-in-Entry c = refused_early _ (rw c.in-Entry.is at c.read_vector.ensures) c.refuse-in-Entry.ensures
+returns-in-Err-Entry c = refused_early _ (rw c.in-Err-Entry.field-0-is at c.in-Err-Entry.ensures) (rw c.in-Err-Entry.i-is at c.refuse-in-Err-Entry.ensures)
 
-pub returns-in-Padding : goal.returns-in-Padding
+pub returns-in-Err-Padding : goal.returns-in-Err-Padding
 unfolding answers.reads answers.number_of
-returns-in-Padding c = refused_early _ (rw c.in-Padding.is at c.read_vector.ensures) c.refuse-in-Padding.ensures
+returns-in-Err-Padding c = refused_early _ (rw c.in-Err-Padding.field-0-is at c.in-Err-Padding.ensures) (rw c.in-Err-Padding.place-is at c.refuse-in-Err-Padding.ensures)
 
-pub returns-in-Entries : goal.returns-in-Entries
-returns-in-Entries c = handed_on _ (rw c.in-Entries.is at c.read_vector.ensures).1 c.hand_out.ensures
+pub returns-in-Ok : goal.returns-in-Ok
+returns-in-Ok c = handed_on _ c.in-Ok.ensures.1 c.hand_out.ensures

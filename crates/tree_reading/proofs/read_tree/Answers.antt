@@ -1,31 +1,33 @@
 -- `tree_reading::read_tree` meets its contract: what frames the record, and then what its bytes make (specs/Gives).
-use native.Mathlib.Omega.{arith}
 use borrow.Author.Rules.{rules}
 use Rattle.archive_laws.proofs.Reader.{reader_refused}
-use Rattle.archive.specs.Finds.{part_ends, part_size}
-use Rattle.tree_reading.specs.Gives.{record_made}
+use mathlib.Core.List.{List}
+use Prim.Native.Nat.{ℕ}
+use Rattle.std.proofs.Common.{Err}
+use Rattle.std.proofs.lemmas.Result.{err_from_is_err_and}
+use Rattle.rules.specs.CallReadTree.{read_tree}
+use Rattle.archive.specs.Finds.{Finds, part_ends}
+use Rattle.archive.specs.declared.ArchiveFault.{ArchiveFault}
+use Rattle.archive.specs.declared.ArchiveFault.TheVariants.{Length, LeafCount, NoTree}
+use Rattle.tree_reading.specs.Gives.{Gives, tree_fault, record_made}
 use Rattle.tree_reading.proofs.read_tree.Goals as goal
 
+-- what is wrong with the archive is what is wrong with the tree
+refused : (s : List ℕ) (r : ℕ) (vector : List ℕ) (fault : ArchiveFault) → Finds s r (Err fault) → Gives (read_tree s r) vector (Err (tree_fault fault))
+refused s r vector (Length wanted) h = reader_refused s r h
+refused s r vector LeafCount h = reader_refused s r h
+refused s r vector (NoTree number) h = reader_refused s r h
+
 pub overflow_add-end : goal.overflow_add-end
-overflow_add-end c = let k = part_ends _ _ _ _ c.in-Record.ensures in search rules
+overflow_add-end c = let k = part_ends _ _ _ _ c.in_ok-n.ensures in search rules
 
 pub slice_bounds-read_bare-end : goal.slice_bounds-read_bare-end
-slice_bounds-read_bare-end c = let k = part_ends _ _ _ _ c.in-Record.ensures in search rules
+slice_bounds-read_bare-end c = let k = part_ends _ _ _ _ c.in_ok-n.ensures in search rules
 
-pub read_bare-requires : goal.read_bare-requires
-read_bare-requires c =
-    let h = c.in-Record.ensures in
-    let F = h.1 in
-    (omega (arith, h.0, F.some_leaf), omega (arith, h.0, F.few), part_size _ _ _ _ h, c.requires)
+pub returns-in_err-n : goal.returns-in_err-n
+returns-in_err-n c =
+    let (_, given, is) = err_from_is_err_and c.from_residual.result c.from_residual.ensures.1 in
+    rw (given, is) (refused _ _ c.args.vector.now _ c.in_err-n.ensures)
 
-pub returns-in-Length : goal.returns-in-Length
-returns-in-Length c = reader_refused _ _ c.in-Length.ensures
-
-pub returns-in-LeafCount : goal.returns-in-LeafCount
-returns-in-LeafCount c = reader_refused _ _ c.in-LeafCount.ensures
-
-pub returns-in-NoTree : goal.returns-in-NoTree
-returns-in-NoTree c = reader_refused _ _ c.in-NoTree.ensures
-
-pub returns-in-Record : goal.returns-in-Record
-returns-in-Record c = rw (record_made _ _ _ _ c.in-Record.ensures) c.read_bare.ensures
+pub returns : goal.returns
+returns c = rw (record_made _ _ _ _ c.in_ok-n.ensures) c.read_bare.ensures
