@@ -83,7 +83,8 @@ pub fn next_call() -> Option<Call> {
     CALLS.iter().copied().find(|call| *call as u8 == number)
 }
 
-/// A leaf count, or the number of a tree. Where the input ends it is any number, and what follows is not whole.
+/// A leaf count, or the number of a tree. Where the input ends in it, it is the number of the bytes that there are, and not None, since the
+/// line of a view is written all the same; what follows is not whole.
 pub fn long_number() -> usize {
     let mut eight = [0u8; 8];
     io::read_full(0, &mut eight);

@@ -86,12 +86,12 @@ impl<'a> fmt::Display for Hex<'a> {
     }
 }
 
-/// One byte on standard output.
+/// One byte on standard output: the line's end of `listing`, which has its lines as bytes.
 pub fn byte(b: u8) {
     io::write_all(1, &[b]);
 }
 
-/// An answer on standard output, without a line's end.
+/// An answer on standard output, for `listing`, which ends the line itself.
 pub fn answer(given: Answer) {
     let _ = write!(Output, "{}", Shown(given));
 }
