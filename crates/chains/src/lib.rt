@@ -29,15 +29,18 @@ impl Chains {
         requires { n ≤ 1024 }
         ensures { Built n [] result.names result.lows result.small result.next result.last }
     {
-        let mut names = [0u16; 2048];
-        lists::number_leaves(&mut names, n);
-        Chains {
-            names,
-            lows: [NO_KEY; 2048],
+        let mut chains = Chains {
+            names: [0; 2048],
+            lows: [0; 2048],
             small: [0; 1024],
             next: [0; 1024],
             last: [0; 1024],
+        };
+        for k in 0..n {
+            chains.lows[k] = NO_KEY;
         }
+        lists::number_leaves(&mut chains.names, n);
+        chains
     }
 
     /// Adds the row of node p with the children l and r. a and i are the smaller and the larger of the children's names. The pair goes to the

@@ -1,6 +1,13 @@
-use Rattle.chains.specs.Leaves.{built_leaves}
-use borrow.Author.Rules.{rules}
+-- `of_leaves` meets its contract. The invariant: the first k leaves have no key yet.
+use Rattle.std.proofs.Common.{◌≡◌, arith, rules, refl}
+use Rattle.chains.specs.Leaves.{keyless_start, keyless_next, built_leaves}
 use Rattle.chains.proofs.Chains.of_leaves.Goals as goal
 
+pub loop-k-init : goal.loop-k-init
+loop-k-init c = keyless_start 2048 1024 refl refl refl refl refl refl
+
+pub loop-k-preserved : goal.loop-k-preserved
+loop-k-preserved c = keyless_next c.loop-k.invariant (omega arith)
+
 pub returns : goal.returns
-returns c = built_leaves c.requires (search rules) c.number_leaves.ensures
+returns c = let k : c.loop-k.k ≡ c.args.n = omega arith in built_leaves c.requires (search rules) c.number_leaves.ensures (rw k at c.loop-k.invariant)
