@@ -10,8 +10,8 @@
 # - No line has more than 300 signs. Each file has a head comment, but for proof files and Lib.antt, which lists modules.
 # - A must-fail edit has letters, digits and _ in its name, and what it replaces stands once. Each crate below the last layer has one,
 #   unless there is nothing in it to edit.
-# - What a page cites as crate::item, as `crate File.name` or, of an edit, as crate/edit is there. (docs/CHANGES.md and docs/PORT.md tell
-#   of the past.)
+# - What a page cites as crate::item, as `crate File.name` or, of an edit, as crate/edit is there. (docs/CHANGES.md, docs/PORT.md and
+#   docs/DESIGN-PASS.md tell of the past.)
 # It reads crates.txt, the pages, the edits, and every .rt and .antt file, in this order, with bytes for signs (LC_ALL=C); then any awk
 # will do. It is text that is read: names are told apart by the file that an import names, and no further. An import is one line.
 
@@ -66,7 +66,7 @@ function read_page(    k, n, quoted, text) {
 }
 
 function cite_place(what) {
-    if (FILENAME ~ /CHANGES|PORT/) return
+    if (FILENAME ~ /CHANGES|PORT|DESIGN-PASS/) return
     places++
     place_name[places] = what
     place_page[places] = FILENAME ":" FNR
