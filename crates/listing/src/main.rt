@@ -8,6 +8,7 @@ ghost use Rattle.io.specs.Counts.{IsPrefixLen};
 ghost use Rattle.rules.specs.Listing.{most_records};
 ghost use Rattle.holding.specs.Wanted.{bytes_wanted};
 
+use printing::Shown;
 use rules::Answer;
 
 fn main() {
@@ -26,8 +27,7 @@ fn list(held: &mut [u8; 1280], vector: &mut [u16; 1024], out: &mut [u8; 10624]) 
         }
         let given = trees::unpack(&held[..k], vector);
         let Answer::Done(n) = given else {
-            printing::answer(given);
-            printing::byte(b'\n');
+            printing::line(Shown(given));
             return;
         };
         let end = listing_line::write_line(&vector[..n], out);

@@ -86,16 +86,6 @@ impl<'a> fmt::Display for Hex<'a> {
     }
 }
 
-/// One byte on standard output: the line's end of `listing`, which has its lines as bytes.
-pub fn byte(b: u8) {
-    io::write_all(1, &[b]);
-}
-
-/// An answer on standard output, for `listing`, which ends the line itself.
-pub fn answer(given: Answer) {
-    let _ = write!(Output, "{}", Shown(given));
-}
-
 /// A line on standard output.
 pub fn line<D: fmt::Display + Drop>(text: D) {
     let _ = writeln!(Output, "{text}");
