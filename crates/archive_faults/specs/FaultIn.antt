@@ -1,6 +1,6 @@
 -- The first entry above its bound, of vectors one after another in a list, as its index in the list.
 -- Main definitions: first_fault_in, Searched.
--- Main results: fault_in_none, fault_in_some (what the index says); searched_start, searched_next, searched_here, searched_end (the search).
+-- Main results: fault_in_none, fault_in_some (what the index says); searched_next, searched_here, searched_end (the search).
 use Rattle.std.specs.Prelude.{◌≡◌, refl, List, ℕ, zero, suc, ◌+◌, ◌*◌, ◌/◌, ◌≤◌, ◌<◌, length, take, drop}
 use Rattle.std.proofs.Common.{ap, ◌∙◌, arith}
 use Rattle.std.proofs.Math.Option.{Option, none, some, get_or, some-injective, none-ne-some}
@@ -59,9 +59,6 @@ pub record Searched (n : ℕ) (xs : List ℕ) (at : ℕ) : Type 0 where
   pub left : ℕ
   pub walk : Left n xs at left
   pub rest : fault_in 0 (cut n (length xs / n) xs) ≡ fault_in at (cut n left (drop at xs))
-
-pub searched_start : {n : ℕ} {xs : List ℕ} → 1 ≤ n → n ≤ 1024 → length xs ≡ length xs / n * n → Searched n xs 0
-searched_start {n} {xs} a b w = record { few = b; left = length xs / n; walk = left_start a w; rest = refl }
 
 pub searched_end : {n : ℕ} {xs : List ℕ} {at : ℕ} → Searched n xs at → length xs ≤ at → fault_in 0 (cut n (length xs / n) xs) ≡ none
 unfolding cut fault_in

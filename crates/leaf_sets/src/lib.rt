@@ -1,7 +1,7 @@
 // The leaf sets of the merges of a vector, leaf x as bit x: those of the clades of two leaves or more.
 #![tactic(auto)]
 
-ghost use Rattle.std.specs.Prelude.{◌≡◌, ◌++◌, ◌-◌, ◌<◌, ◌≤◌, length, take, drop};
+ghost use Rattle.std.specs.Prelude.{◌≡◌, ◌++◌, ◌-◌, ◌≤◌, length, take, drop};
 ghost use Rattle.rules.specs.Vector.{Vector};
 ghost use Rattle.clade_passes.specs.Merged.{vector_sets};
 ghost use Rattle.leaf_sets.specs.Bits.{Bits};
