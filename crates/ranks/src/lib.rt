@@ -1,7 +1,7 @@
 // A set of names below 1,024 that answers how many members are below a name by two loads and a sum.
 //
 // The names stand in sixteen blocks of 64. blocks[w] is how many members are below block w, names[x] how many of x's block are below x.
-// A new member i adds 1 to each later block and to each later name of its block: the steps of both are made once.
+// A new member i adds 1 to each later block and to each later name of its block.
 #![tactic(auto)]
 
 ghost use Rattle.std.specs.Prelude.{◌≡◌, Bool, false, ℕ, ◌+◌, ◌<◌};
@@ -13,10 +13,27 @@ ghost use Rattle.ranks.specs.Ranks.{Ranks, also};
 pub struct NameSet {
     pub blocks: [u16; 16],
     pub names: [u8; 1024],
-    pub block_steps: [u16; 32],
-    pub name_steps: [u8; 128],
-    ghost of_blocks: { Steps 16 block_steps },
-    ghost of_names: { Steps 64 name_steps },
+}
+
+/// What a new member adds to the counts of blocks and to those of names. It is no part of the set: the loops that add it would look each
+/// time whether both overlap, at 3 instructions more for each of a tree's leaves.
+#[derive(Drop)]
+pub struct MemberSteps {
+    pub blocks: [u16; 32],
+    pub names: [u8; 128],
+    ghost of_blocks: { Steps 16 blocks },
+    ghost of_names: { Steps 64 names },
+}
+
+impl MemberSteps {
+    /// The steps of any member, which are always the same.
+    pub fn filled() -> MemberSteps {
+        let mut blocks = [0u16; 32];
+        let mut names = [0u8; 128];
+        blocks[16..].fill(1);
+        names[64..].fill(1);
+        MemberSteps { blocks, names }
+    }
 }
 
 impl NameSet {
@@ -24,15 +41,9 @@ impl NameSet {
     pub fn empty() -> NameSet
         ensures { Ranks (λ y. false) result.blocks result.names }
     {
-        let mut block_steps = [0u16; 32];
-        let mut name_steps = [0u8; 128];
-        block_steps[16..].fill(1);
-        name_steps[64..].fill(1);
         NameSet {
             blocks: [0; 16],
             names: [0; 1024],
-            block_steps,
-            name_steps,
         }
     }
 
@@ -46,12 +57,12 @@ impl NameSet {
     }
 
     /// Takes i into the set.
-    pub fn insert(&mut self, i: usize)
+    pub fn insert(&mut self, steps: &MemberSteps, i: usize)
         requires by_index { (f : ℕ → Bool) × Ranks f self.old.blocks self.old.names × (f i ≡ false) }
         requires i_bound { i < 1024 }
         ensures { (f : ℕ → Bool) → Ranks f self.old.blocks self.old.names → f i ≡ false → Ranks (also f i) self.new.blocks self.new.names }
     {
-        steps::add_to_blocks(&mut self.blocks, &self.block_steps, i / 64);
-        steps::add_to_names(&mut self.names, &self.name_steps, i);
+        steps::add_to_blocks(&mut self.blocks, &steps.blocks, i / 64);
+        steps::add_to_names(&mut self.names, &steps.names, i);
     }
 }

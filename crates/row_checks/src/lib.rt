@@ -26,7 +26,7 @@ pub fn check_numbers(t: usize, p: usize, l: usize, r: usize, parent: usize) -> R
     if parent != p {
         return Err(RowFault::Parent(t));
     }
-    if p <= l.max(r) {
+    if p <= l || p <= r {
         return Err(RowFault::Child(t));
     }
     Ok(())
