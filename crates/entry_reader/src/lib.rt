@@ -13,10 +13,8 @@ pub fn read_singles<'a>(r: Reader<'a>, i: usize, end: usize, out: &mut [u16]) ->
     ensures { Read r.entry i end out.old result out.new }
 {
     let mut q = r;
-    let mut k = i;
-    while k < end {
+    for k in i..end {
         q = bit_reader::next_field(q, runs::field_width(k), out, k);
-        k += 1;
     }
     q
 }
@@ -28,10 +26,8 @@ fn read_run<'a>(r: Reader<'a>, i: usize, end: usize, out: &mut [u16]) -> Reader<
 {
     let w = runs::field_width(i);
     let mut q = r;
-    let mut k = i;
-    while k < end {
+    for k in (i..end).step_by(4) {
         q = bit_reader::next_four(q, w, out, k);
-        k += 4;
     }
     q
 }

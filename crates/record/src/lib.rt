@@ -16,7 +16,7 @@ pub fn read_record(s: &[u8], start: usize, n: usize, out: &mut [u16]) -> bool
     ensures { (take n out.new ≡ entries_from start n s.now) × (result ≡ any_set (drop (start + field_bits n) (bits_of s.now))) }
 {
     out[0] = 0;
-    let first = numbers::lesser(runs::FIRST_FOUR, n);
+    let first = runs::FIRST_FOUR.min(n);
     let last = runs::fours_end(first, BEHIND, n);
     let width = (8 * s.len() - start - lengths::field_bits(n)) as u32;
     let mut rest = [0u16; 1];

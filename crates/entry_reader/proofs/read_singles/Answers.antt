@@ -1,4 +1,4 @@
--- `entry_reader::read_singles` meets its contract. The loop keeps `Onward`; the measure is the number of entries left.
+-- `entry_reader::read_singles` meets its contract. The loop keeps `Onward`.
 use native.Mathlib.Omega.{arith}
 use mathlib.Core.Path.{refl}
 use Rattle.entry_reader.proofs.Reading.{onward_start, onward_fits, onward_one, onward_done}

@@ -1,11 +1,7 @@
--- `entry_reader::read_singles` meets its contract. The loop keeps `Onward`; the measure is the number of entries left.
+-- `entry_reader::read_singles` meets its contract. The loop keeps `Onward`.
 use mathlib.Core.Path.{◌≡◌}
-use Prim.Native.Nat.{◌-◌}
 use Rattle.entry_reader.proofs.Reading.{Onward}
 use Rattle.entry_reader.proofs.read_singles.Given as goal
 
 abbrev pub invariant-loop-k : goal.invariant-loop-k
 invariant-loop-k l = (l.q.bytes ≡ l.r.bytes) × Onward l.q.bytes.now l.r.at l.i l.end 0 l.initial.out l.q.at l.k l.out
-
-abbrev pub decreases-loop-k : goal.decreases-loop-k
-decreases-loop-k l = l.end - l.k

@@ -17,7 +17,7 @@ read_fields-requires c =
     let F = c.requires.0 in (
       (
         fields_left a.s.now a.start a.n F _ (simp length-set c.requires.1),
-        parts_of a.n F.some_leaf c.lesser-first.ensures c.fours_end-last.ensures,
+        parts_of a.n F.some_leaf c.min-first.ensures c.fours_end-last.ensures,
         reading_start a.s.now a.start a.out.now (omega (arith, F.some_leaf)),
       ),
       rw c.field_bits.ensures (padding_inside a.s.now a.start a.n F),
