@@ -4,7 +4,7 @@ use Rattle.std.specs.Prelude.{◌≡◌, List, [], ◌∷◌, ◌++◌, ℕ, suc
 use Rattle.std.proofs.Math.Path.{sym}
 use Rattle.std.proofs.Common.{ap, ◌∙◌, append-nil, append_assoc, zero-mul, arith, length-append, length-take, length-drop, take_at, drop_at, drop-drop}
 use Rattle.std.proofs.Math.Option.{none}
-use Rattle.std.proofs.Math.Nat.{suc-mul}
+use Rattle.std.proofs.Math.Nat.{suc-mul, mul-le-mul_left}
 use Rattle.std.proofs.Math.Seq.{drop-length}
 use Rattle.rules.specs.Vector.{Vector}
 use Rattle.rules.specs.Archive.{header, bare_length, bare_record, bare_records, implied_length, archive_of}
@@ -30,6 +30,15 @@ pub record Writes (n : ℕ) (xs : List ℕ) (bytes room : ℕ) : Type 0 where
 pub writes_header : {n : ℕ} {xs : List ℕ} {bytes room : ℕ} → Writes n xs bytes room → (n < 2048) × (length xs / n < 2097152) × (4 ≤ room)
 unfolding implied_length
 writes_header w = (omega (arith, w.few_leaves), omega (arith, w.few), omega (arith, w.fits))
+
+-- a tree below the tree count starts before the end of the list, and all of them end there
+pub tree_inside : {n : ℕ} {xs : List ℕ} {bytes room : ℕ} (t : ℕ) → Writes n xs bytes room → t < length xs / n → t * n < length xs
+tree_inside {n} {xs} t w h =
+    let k : suc t ≤ length xs / n = h in
+    omega (arith, w.whole, w.some_leaf, suc-mul t n, mul-le-mul_left n k)
+
+pub all_trees : {n : ℕ} {xs : List ℕ} {bytes room : ℕ} (t : ℕ) → Writes n xs bytes room → length xs / n ≤ t → length xs ≤ t * n
+all_trees {n} {xs} t w h = omega (arith, w.whole, mul-le-mul_left n h)
 
 -- the header and the records of the trees before an index are written, and those of the trees behind it are left
 pub record Wrote (n : ℕ) (xs : List ℕ) (bytes : ℕ) (before after : List ℕ) (from at : ℕ) : Type 0 where

@@ -33,15 +33,11 @@ pub fn write_archive(entries: &[u16], n: usize, bytes: usize, out: &mut [u8])
         ≡ archive_of n (cut n (length entries.now / n) entries.now)
         ++ drop (implied_length n (length entries.now / n)) out.old }
 {
-    let size = entries.len();
-    write_header(n, size / n, out);
-    let mut from: usize = 0;
-    let mut at: usize = HEADER_BYTES;
-    while from < size {
-        let end = from + n;
-        let next = at + bytes;
-        packing::pack_bare(&entries[from..end], &mut out[at..next]);
-        from = end;
-        at = next;
+    let trees = entries.len() / n;
+    write_header(n, trees, out);
+    for t in 0..trees {
+        let from = t * n;
+        let at = HEADER_BYTES + t * bytes;
+        packing::pack_bare(&entries[from..from + n], &mut out[at..at + bytes]);
     }
 }

@@ -1,33 +1,37 @@
 -- `archive_writing::write_archive` meets its contract: the header, and then the records one by one.
 use native.Mathlib.Omega.{arith}
-use mathlib.Core.Path.{◌∙◌}
-use Prim.Native.Nat.{◌+◌, ◌-◌}
-use Rattle.archive_writing.specs.Writing.{writes_header, wrote_start, wrote_end, wrote_same, wrote_inside, wrote_ready, wrote_next}
+use native.Mathlib.Nat.{zero-mul, suc-mul}
+use mathlib.Core.Path.{◌≡◌}
+use Prim.Native.Nat.{ℕ, ◌+◌, ◌-◌, ◌*◌}
+use native.Mathlib.Numerals.{add-one}
+use Rattle.archive_writing.specs.Writing.{writes_header, tree_inside, all_trees, wrote_start, wrote_end, wrote_ready, wrote_next}
 use Rattle.archive_writing.proofs.write_archive.Goals as goal
+
+-- one tree more
+next : (t k : ℕ) → (t + 1) * k ≡ t * k + k
+next t k = rw add-one (suc-mul t k)
 
 pub write_header-requires : goal.write_header-requires
 write_header-requires c = writes_header c.requires
 
-pub loop-from-init : goal.loop-from-init
-loop-from-init c = wrote_start c.args.out.now c.requires c.write_header.ensures
-
-pub overflow_add-next : goal.overflow_add-next
-overflow_add-next c =
-    let written = c.loop-from.invariant in
-    omega (arith, (wrote_inside written c.loop-from-test.true).1, wrote_same written)
+pub loop-t-init : goal.loop-t-init
+loop-t-init c = rw (zero-mul c.args.n, zero-mul c.args.bytes) (wrote_start c.args.out.now c.requires c.write_header.ensures)
 
 pub pack_bare-requires : goal.pack_bare-requires
 pack_bare-requires c =
-    wrote_ready c.loop-from.invariant c.loop-from-test.true (c.loop-from.from + c.args.n - c.loop-from.from)
-    (c.loop-from.at + c.args.bytes - c.loop-from.at) (omega arith) (omega arith)
+    let a = c.args in
+    let t = c.loop-t.t in
+    wrote_ready c.loop-t.invariant (tree_inside t c.requires c.loop-t-test.true) (t * a.n + a.n - t * a.n)
+    (4 + t * a.bytes + a.bytes - (4 + t * a.bytes)) (omega arith) (omega arith)
 
-pub loop-from-preserved : goal.loop-from-preserved
-loop-from-preserved c =
-    wrote_next c.loop-from.invariant c.loop-from-test.true (c.loop-from.from + c.args.n - c.loop-from.from)
-    (c.loop-from.at + c.args.bytes - c.loop-from.at) (omega arith) (omega arith) _ c.pack_bare.ensures
-
-pub shape_of-out : goal.shape_of-out
-shape_of-out c = wrote_same c.loop-from.invariant ∙ c.write_header.auto.out
+pub loop-t-preserved : goal.loop-t-preserved
+loop-t-preserved c =
+    let a = c.args in
+    let t = c.loop-t.t in
+    let e : 4 + (t + 1) * a.bytes ≡ 4 + t * a.bytes + a.bytes = omega (arith, next t a.bytes) in
+    rw (next t a.n, e)
+    (wrote_next c.loop-t.invariant (tree_inside t c.requires c.loop-t-test.true) (t * a.n + a.n - t * a.n)
+    (4 + t * a.bytes + a.bytes - (4 + t * a.bytes)) (omega arith) (omega arith) _ c.pack_bare.ensures)
 
 pub returns : goal.returns
-returns c = wrote_end c.args.out.now c.loop-from.invariant c.write_header.ensures c.loop-from-test.false
+returns c = wrote_end c.args.out.now c.loop-t.invariant c.write_header.ensures (all_trees c.loop-t.t c.requires c.loop-t-test.false)
