@@ -65,6 +65,7 @@ fn with_digit(label: Option<Label>, at: usize, c: u8) -> Label
 
 // The first label at fault, where one is: the second look at a text, byte by byte, which only a refusal needs. A label that reaches n is
 // stray whatever digits follow. Where no label before the bytes' end is at fault, the one that ends there is; it is below n, so it is double.
+// The flags are numbers, as basics specs/Flagged has them.
 pub fn first_fault(s: &[u8], n: usize) -> LabelFault
     requires { (n ≤ 1024) × (first_fault n [] (labels_of s.now) ≡ none → ⊥) }
     ensures { some (fault_is result) ≡ first_fault n [] (labels_of s.now) }

@@ -1,7 +1,8 @@
 // The array that a text is read to, and what is stored there: a label, a closed pair, the place where the signs break off.
 //
 // What is read goes to one array, since each further array that a call passes on costs more than a label does. The cells at its start stand
-// apart from each other, else the compiler joins two of them to a vector of two.
+// apart from each other, else the compiler joins two of them to a vector of two. So they are no fields of a struct, which stand side by side; and
+// text_laws says what the readers leave of such a list (specs/Cells cell, leaf_in, pair_in, broken_in; specs/Answers Took, Broke).
 #![tactic(auto)]
 
 ghost use Rattle.std.specs.Prelude.{◌≡◌, ◌<◌};
@@ -37,7 +38,8 @@ pub const CHILD: u32 = 65536;
 // How many signs a text is read from, with the zeros behind it.
 pub const SIGNS: usize = 6144;
 
-// Where a node ends that breaks off: a zero that no text reaches, so that whoever looks for the next sign finds none.
+// Where a node ends that breaks off: a zero that no text reaches, so that whoever looks for the next sign finds none. It is no Err: text_laws
+// specs/Answers Broke says of the readers that they end here and have the place in a cell, and no test more stands between two signs.
 const OFF: usize = 6143;
 
 // The signs break off at a place, or broke off before.

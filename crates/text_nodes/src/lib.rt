@@ -1,4 +1,5 @@
 // A node of a text: the node reader, which reads a label or a pair, and the pair reader call each other while the remaining signs fall.
+// Where the signs break off they end at text_cells OFF, and give no Result: text_laws specs/Answers Broke says so of both.
 #![tactic(auto)]
 
 ghost use Rattle.std.specs.Prelude.{◌≡◌, ℕ, ◌-◌, List, get_or};

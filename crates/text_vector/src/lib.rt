@@ -54,6 +54,7 @@ fn signs_vector(
     ensures { Gives s.now vector.new result }
 {
     let mut m = [0u32; CELLS];
+    // A match, since of what `map_err` and `?` give the proof does not know the sign that the closure looked up.
     let n = match text_reader::read_text(signs, count, &mut m) {
         Ok(leaves) => leaves,
         Err(broken) => return Err(TextFault::Breaks(text_signs::place_of(s, broken.sign))),
