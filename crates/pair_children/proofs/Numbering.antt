@@ -57,9 +57,6 @@ numbering_start {pairs} {n} h g l r = record {
 }
 
 module _ {pairs : List ℕ} {n : ℕ} {left₀ left right₀ right : List ℕ} {k : ℕ} (N : Numbering pairs n left₀ left right₀ right k) where
-  pub numbering_room : k < n - 1 → (k < length left) × (k < length right)
-  numbering_room h = (omega (arith, N.firsts.same, N.firsts.in_o), omega (arith, N.seconds.same, N.seconds.in_o))
-
   pub numbering_next : {x y : ℕ} → k < n - 1 → x ≡ first_number n (get_or pairs k 0) → y ≡ second_number n (get_or pairs k 0) → Numbering pairs n left₀ (set left k x) right₀ (set right k y) (k + 1)
   numbering_next h p q = record {
     few = N.few;
