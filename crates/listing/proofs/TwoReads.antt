@@ -1,23 +1,17 @@
 -- The bytes of a record at the front of a lent list, in two reads: two bytes, and behind them those that these want.
--- Main results: first_two, length_kept; more_wanted, all_counted.
+-- Main results: all_counted.
 use mathlib.Core.List.{List, ◌++◌}
 use mathlib.Core.Logic.{◌≢◌}
 use mathlib.Core.Path.{◌≡◌, sym, ap, ◌∙◌}
 use Prim.Native.Nat.{ℕ, ◌+◌, ◌-◌, ◌≤◌}
 use native.Mathlib.Omega.{arith}
 use lib.ListN.{length, take, drop, length-append, length-drop}
-use lib.Seq.{length-take-le, length_front, take_at}
+use lib.Seq.{length-take-le, take_at}
 use Rattle.io.specs.Counts.{IsPrefixLen}
 use Rattle.io.proofs.Counting.{prefix_len_of_le}
 use Rattle.basics.proofs.Cases.{by_eq}
 use Rattle.holding.specs.Wanted.{bytes_wanted}
 use Rattle.holding.proofs.Wanted.{wanted_begun, wanted_front, wanted_within}
-
-pub first_two : (xs : List ℕ) → 1280 ≤ length xs → 2 ≡ length (take 2 xs)
-first_two xs h = sym (length-take-le 2 xs (omega arith))
-
-pub length_kept : (back xs : List ℕ) → length back ≡ length (take 2 xs) → length (back ++ drop 2 xs) ≡ length xs
-length_kept back xs e = length_front xs back 2 e
 
 -- got bytes were read of two, and these want w
 module _ (xs : List ℕ) {got w : ℕ} (enough : 1280 ≤ length xs) (few : got ≤ 2) (wants : w ≡ bytes_wanted (take got xs)) where
@@ -25,7 +19,7 @@ module _ (xs : List ℕ) {got w : ℕ} (enough : 1280 ≤ length xs) (few : got 
   two_read : w ≢ 2 → got ≡ 2
   two_read d = by_eq got 2 (λ e. e) (λ n. absurd (d (wants ∙ wanted_begun (take got xs) (omega (arith, n, length-take-le got xs (omega arith))))))
 
-  pub more_wanted : (2 ≤ w) × (w ≤ length xs)
+  more_wanted : (2 ≤ w) × (w ≤ length xs)
   more_wanted = let h = wanted_within (take got xs) in (omega arith, omega arith)
 
   -- two bytes, and those read behind them
