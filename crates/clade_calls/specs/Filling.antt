@@ -1,6 +1,6 @@
 -- What stands at each turn of the clade table's loop, and what its parts say.
 -- Main definitions: Ready, Loaded, Readied, held_entry, finished.
-use Rattle.std.specs.Prelude.{Bool, false, ◌≢◌, List, [], ◌≡◌, refl, ℕ, ◌+◌, ◌-◌, ◌*◌, ◌/◌, ◌%◌, ◌≤◌, ltb, length, get_or, drop}
+use Rattle.std.specs.Prelude.{Bool, false, List, [], ◌≡◌, ℕ, ◌+◌, ◌-◌, ◌*◌, ◌/◌, ◌%◌, ◌≤◌, ltb, length, get_or, drop}
 use Rattle.std.proofs.Common.{sym, ap, ◌∙◌, arith, length-take, length-drop, lt-ltb, le-ltb}
 use Rattle.std.specs.Int.Count.{ones}
 use Rattle.rules.specs.declared.Clade.{Clade as Entry}
@@ -48,18 +48,6 @@ unfolding implied_length
 header_bytes G = omega (arith, G.whole)
 
 -- ---- the batch of entry i
-pub not_loaded_start : {s : List ℕ} {i : ℕ} (held : List ℕ) → i ≡ 0 → Loaded s i held held
-not_loaded_start {s} {i} held e = record {
-  at_start = λ q. refl;
-  behind = λ R l h. let z : (i - 1) / most ≡ i / most = omega (arith, e) in h ∙ ap (λ (j : ℕ). batch_at most j (table s)) z;
-}
-
-pub not_loaded_inside : {s : List ℕ} {i : ℕ} (held : List ℕ) → i % 4096 ≢ 0 → Loaded s i held held
-not_loaded_inside {s} {i} held d = record {
-  at_start = λ q. refl;
-  behind = λ R l h. let z : (i - 1) / most ≡ i / most = omega (arith, d) in h ∙ ap (λ (j : ℕ). batch_at most j (table s)) z;
-}
-
 full : (j i : ℕ) (es : List Entry) → i ≡ (j + 1) * 4096 → i ≤ length es → length (batch_at most j es) ≡ most
 unfolding batch_at
 full j i es e l = omega (arith, length-take most (drop (j * most) es), length-drop (j * most) es, e, l)

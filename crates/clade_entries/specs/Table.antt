@@ -7,7 +7,6 @@ use Rattle.rules.specs.declared.Clade.{Clade as Entry}
 use Rattle.rules.specs.Answer.{Making, made, refuses}
 use Rattle.rules.specs.CladeTable.{clade_table, trees_of}
 use Rattle.rules.specs.CallCladeTable.{following, vectors_in}
-use Rattle.basics.proofs.Cases.{by_lt}
 use Rattle.accepting.proofs.Answers.{made_same, made_not_refuses}
 use Rattle.clade_laws.specs.Rising.{From}
 use Rattle.clade_laws.specs.Entries.{leaves_of}

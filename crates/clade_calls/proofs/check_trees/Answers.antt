@@ -1,5 +1,4 @@
 -- `check_trees` meets its contract: a tree that is refused is what the archive is refused for.
-use mathlib.Core.Path.{◌∙◌}
 use Rattle.clade_calls.specs.Checked.{passed_first, tree_stopped}
 use Rattle.clade_calls.proofs.check_trees.Goals as goal
 

@@ -1,5 +1,4 @@
 -- `clade_table` meets its contract: what `Filling` says stands at each turn, and at the last one the table is written or the archive refused.
-use native.Mathlib.Omega.{arith}
 use Rattle.clade_calls.proofs.Filling as filling
 use Rattle.clade_calls.proofs.clade_table.Goals as goal
 

@@ -5,9 +5,6 @@ use Rattle.rules.specs.Answer.{reads}
 use Rattle.clade_calls.specs.Checked.{tabled, same_table, short_checked, again_checked, passed_header}
 use Rattle.clade_calls.proofs.count_and_answer.Goals as goal
 
-pub count_entries-needed-requires : goal.count_entries-needed-requires
-count_entries-needed-requires c = let B = c.requires in record { readable = B.readable; first = B.first }
-
 pub returns-then-room-needed : goal.returns-then-room-needed
 returns-then-room-needed c = let B = c.requires in
     short_checked (tabled B) (c.count_entries-needed.ensures ∙ ap length (same_table B)) c.if-room-needed.true

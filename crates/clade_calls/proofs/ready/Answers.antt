@@ -1,5 +1,4 @@
 -- `ready` meets its contract.
-use mathlib.Core.Path.{◌∙◌}
 use Rattle.clade_calls.specs.Filling.{readied}
 use Rattle.clade_calls.proofs.ready.Goals as goal
 

@@ -1,5 +1,5 @@
 -- `count_entries` meets its contract: batch by batch.
-use Rattle.clade_entries.specs.Next.{Counting, counting_start, counting_few, counting_next, counting_end}
+use Rattle.clade_entries.specs.Next.{counting_start, counting_few, counting_next, counting_end}
 use native.Mathlib.Omega.{arith}
 use Rattle.clade_entries.proofs.count_entries.Goals as goal
 

@@ -1,5 +1,4 @@
 -- `add_trees` meets its contract: the first r trees are added.
-use Rattle.leaf_sets.specs.Bits.{Bits}
 use Rattle.clade_pass.specs.Pass.{Passing}
 use Rattle.clade_pass.proofs.add_trees.Given as goal
 
