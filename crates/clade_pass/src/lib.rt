@@ -11,6 +11,7 @@ ghost use Rattle.clade_pass.specs.Tree.{TreeAdded};
 
 use archive::HEADER_BYTES;
 use clade_batch::Batch;
+use merges::{Merges, ROOM};
 use record_entries::{EntryFault, read_entries};
 
 // As many leaves as a tree in a clade table has, and so many words.
@@ -31,12 +32,11 @@ pub struct Trees<'a> {
     pub ghost given: { Given archive.now n count },
 }
 
-// What the leaf sets of a tree are made in: its vector, the list of its merges and their smaller names, the clusters, and the sets.
+// What the leaf sets of a tree are made in: its vector, its merges, the clusters, and the sets.
 #[derive(Drop)]
 struct Room {
     vector: [u16; LEAVES],
-    list: [u16; merges::ROOM],
-    small: [u16; 1024],
+    merges: Merges,
     clusters: [u64; LEAVES],
     sets: [u64; LEAVES],
 }
@@ -58,8 +58,7 @@ fn add_tree(
     leaf_sets::sets_of(
         &room.vector[..n],
         bits,
-        &mut room.list,
-        &mut room.small,
+        &mut room.merges,
         &mut room.clusters,
         &mut room.sets,
     );
@@ -76,8 +75,11 @@ fn add_trees(trees: &Trees, bound: u64, batch: &mut Batch) -> Option<usize>
     leaf_sets::leaf_bits(&mut bits);
     let mut room = Room {
         vector: [0u16; LEAVES],
-        list: [0u16; merges::ROOM],
-        small: [0u16; 1024],
+        merges: Merges {
+            list: [0; ROOM],
+            small: [0; 1024],
+            start: 0,
+        },
         clusters: [0u64; LEAVES],
         sets: [0u64; LEAVES],
     };
