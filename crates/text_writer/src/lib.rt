@@ -33,7 +33,8 @@ fn sign_count(w: u32) -> usize
 }
 
 // The text of a node, leaf or pair. The bytes of a label's word that are no signs stand behind it until what follows overwrites them. A
-// pair's word is read behind its bracket, so that a leaf saves no registers for it.
+// pair's word is read behind its bracket, so that a leaf saves no registers for it. Both clauses bind the rows, since a function that calls
+// itself has no ghost values of its own.
 fn write_node(words: &[u32; WORDS], node: usize, text: &mut [u8; SIGNS], at: usize) -> usize
     requires { (n : ℕ) × (left : List ℕ) × (right : List ℕ) × NodeRoom n left right words.now node at }
     ensures { (n : ℕ) (left right : List ℕ) → NodeRoom n left right words.now node at → Stands (node_text (tree_at n left right node)) at text.old text.new result }
