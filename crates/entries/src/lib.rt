@@ -11,7 +11,8 @@ use chains::Chains;
 use ranks::{MemberSteps, NameSet};
 
 // The entries of the names behind the key k in its chain. keys counts the keys from k on; out[j] has how many of them are above j.
-// The merges before j of names below it are those of the keys between k and j, and those of the set, which are no keys.
+// The merges before j of names below it are those of the keys between k and j, and those of the set, which are no keys. The loop goes from
+// name to name until there is none, and counts nothing.
 fn follow(next: &[u16], set: &mut NameSet, steps: &MemberSteps, out: &mut [u16], k: usize, keys: usize)
     requires { (g : MadeFrom) × Headed g k keys next.now set.old.blocks set.old.names out.old (cell next.now k) }
     ensures { (g : MadeFrom) → Headed g k keys next.now set.old.blocks set.old.names out.old (cell next.now k)
