@@ -1,6 +1,6 @@
 -- A set of names below 1,024, in blocks of 64, as the ranks of its members: how many are below each block, and how many of its block
 -- are below each name. The set itself is a test on numbers.
--- Main definitions: Ranks, also. Main results: ranks_none, rank_is, ranks_also, count_also.
+-- Main definitions: Ranks, also. Main results: ranks_none, ranks_also, count_also.
 use Rattle.std.specs.Prelude.{◌≡◌, refl, Bool, true, false, ◌||◌, List, ℕ, zero, suc, ◌+◌, ◌*◌, ◌/◌, ◌%◌, ◌≤◌, ◌<◌, eqb, ltb, length, get_or, replicate}
 use Rattle.std.proofs.Common.{sym, ap, ap₂, ◌∙◌, add-zero, add-suc, zero-add, arith, eqb-true, ltb-true, ltb-false, lt-ltb, le-ltb}
 use Rattle.std.proofs.lemmas.Bool.{false≢true, eqb-false}
@@ -64,9 +64,6 @@ ranks_none = record {
   where
     none : (x : ℕ) → count (λ y. false) x ≡ 0
     none x = count_none (λ y. false) x (λ y k. refl)
-
-pub rank_is : {f : ℕ → Bool} {blocks names : List ℕ} {x : ℕ} → Ranks f blocks names → x < 1024 → get_or blocks (x / 64) 0 + get_or names x 0 ≡ count f x
-rank_is {x = x} R h = omega (arith, R.before (x / 64) (omega arith), R.within x h)
 
 -- the counts stay small
 pub block_le : {f : ℕ → Bool} {blocks names : List ℕ} → Ranks f blocks names → (w : ℕ) → w < 16 → get_or blocks w 0 ≤ 1024

@@ -16,7 +16,7 @@ pub struct NameSet {
 }
 
 /// What a new member adds to the counts of blocks and to those of names. It is no part of the set: the loops that add it would look each
-/// time whether both overlap, at 3 instructions more for each of a tree's leaves.
+/// time whether both overlap, at 5 instructions more for each of a tree's leaves.
 #[derive(Drop)]
 pub struct MemberSteps {
     pub blocks: [u16; 32],
