@@ -29,6 +29,8 @@ impl Chains {
         requires { n ≤ 1024 }
         ensures { Built n [] result.names result.lows result.small result.next result.last }
     {
+        // 0s are stored in place, where an array of NO_KEY would be made apart and copied, at some thousand instructions. What fill stores in a part
+        // of a field is not known to the proof, so a loop stores the keys.
         let mut chains = Chains {
             names: [0; 2048],
             lows: [0; 2048],

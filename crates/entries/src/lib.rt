@@ -13,7 +13,14 @@ use ranks::{MemberSteps, NameSet};
 // The entries of the names behind the key k in its chain. keys counts the keys from k on; out[j] has how many of them are above j.
 // The merges before j of names below it are those of the keys between k and j, and those of the set, which are no keys. The loop goes from
 // name to name until there is none, and counts nothing.
-fn follow(next: &[u16], set: &mut NameSet, steps: &MemberSteps, out: &mut [u16], k: usize, keys: usize)
+fn follow(
+    next: &[u16],
+    set: &mut NameSet,
+    steps: &MemberSteps,
+    out: &mut [u16],
+    k: usize,
+    keys: usize,
+)
     requires { (g : MadeFrom) × Headed g k keys next.now set.old.blocks set.old.names out.old (cell next.now k) }
     ensures { (g : MadeFrom) → Headed g k keys next.now set.old.blocks set.old.names out.old (cell next.now k)
         → Entered g k keys (falling g.chains k) set.new.blocks set.new.names out.new }
@@ -28,7 +35,14 @@ fn follow(next: &[u16], set: &mut NameSet, steps: &MemberSteps, out: &mut [u16],
 }
 
 /// The entries of the chain of key k, where there is one: no merge before that of the key is of names below it. How many keys there are now.
-pub fn enter_key(chains: &Chains, set: &mut NameSet, steps: &MemberSteps, out: &mut [u16], k: usize, keys: usize) -> usize
+pub fn enter_key(
+    chains: &Chains,
+    set: &mut NameSet,
+    steps: &MemberSteps,
+    out: &mut [u16],
+    k: usize,
+    keys: usize,
+) -> usize
     requires { (g : MadeFrom) × Keyed g chains.now.small chains.now.next chains.now.last (k + 1) keys set.old.blocks set.old.names out.old }
     ensures { (g : MadeFrom) → Keyed g chains.now.small chains.now.next chains.now.last (k + 1) keys set.old.blocks set.old.names out.old
         → Keyed g chains.now.small chains.now.next chains.now.last k result set.new.blocks set.new.names out.new }
