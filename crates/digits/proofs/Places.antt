@@ -1,20 +1,14 @@
 -- A number by its digits, one or two at a time.
--- Main results: two_there, wrote_1 to wrote_4.
+-- Main results: wrote_1 to wrote_4.
 use mathlib.Core.Path.{◌≡◌, refl, ap, sym, ◌∙◌}
 use mathlib.Core.List.{List, [], ◌∷◌, ◌++◌}
-use Prim.Native.Nat.{ℕ, ◌+◌, ◌-◌, ◌*◌, ◌/◌, ◌%◌}
-use native.Mathlib.Omega.{arith}
+use Prim.Native.Nat.{ℕ, ◌+◌}
 use native.Mathlib.Numerals.{add-one}
 use lib.ListN.{set}
 use lib.Seq.{sets}
 use Rattle.grammar.specs.Decimal.{two_digits}
 use Rattle.grammar.proofs.Stores.{sets_append}
 use Rattle.digits.specs.Wrote.{Wrote}
-
-pub two_there : (l : List ℕ) (at x a b : ℕ) → a ≡ 48 + x / 10 → b ≡ 48 + (x - 10 * (x / 10)) → set (set l at a) (at + 1) b ≡ sets l at (two_digits x)
-two_there l at x a b p q =
-    let r : b ≡ 48 + x % 10 = omega arith in
-    rw (p, r, add-one)
 
 module _ (l : List ℕ) (at : ℕ) (w : List ℕ) where
   pub wrote_1 : (a : ℕ) → w ≡ a ∷ [] → Wrote w at l (set l at a) (at + 1)

@@ -1,5 +1,5 @@
 -- The words of a tree's nodes: those of the leaves, and behind them, row by row, those of the pairs.
--- Main definitions: Paired, PairRoom, Pairing. Main results: pairing_start, pairing_room, pairing_next, pairing_end, vector_paired.
+-- Main definitions: Paired, PairRoom, Pairing. Main results: pairing_start, pairing_room, pairing_next, vector_paired.
 use Rattle.std.specs.Prelude.{List, ◌≡◌, ℕ, ◌+◌, ◌-◌, ◌*◌, ◌≤◌, ◌<◌, length, get_or, set}
 use Rattle.std.proofs.Common.{sym, ap, subst, ◌∙◌, arith, length-set, get_or-set_same, get_or-set_other, below_more}
 use Rattle.rules.specs.Table.{Row}
@@ -59,9 +59,6 @@ module _ {list small : List ℕ} {start n : ℕ} {number₀ number words : List 
               (get_or-set_same words (n + t) w 0 (omega (arith, L.long)) ∙ here);
         };
       }
-
-  pub pairing_end : n - 1 ≤ t → Paired n (held_rows list small start n) words
-  pairing_end h = record { leaf_words = P.paired.leaf_words; pair_words = λ j g. P.paired.pair_words j (omega arith) }
 
 -- the rows of the merges of a vector
 pub vector_paired : {v list small : List ℕ} {start : ℕ} (words : List ℕ) → MergesOf v list small start

@@ -1,17 +1,14 @@
 -- The low bits of a word by a mask.
--- Main results: mask, masked_small, masked.
+-- Main result: masked.
 use mathlib.Core.Path.{◌≡◌, ap, ◌∙◌}
-use Prim.Native.Nat.{ℕ, ◌-◌, ◌*◌, ◌%◌, ◌<◌, ◌≤◌, ◌^◌}
-use native.Mathlib.Nat.{one-mul, mod-eq_of_lt, le_trans}
+use Prim.Native.Nat.{ℕ, ◌-◌, ◌*◌, ◌%◌, ◌≤◌, ◌^◌}
+use native.Mathlib.Nat.{one-mul, mod-eq_of_lt}
 use native.Mathlib.Omega.{arith}
-use lib.Bits.{bit_and, and_mask, mask_lt}
-use lib.Pow.{pow-lt, pow_mono}
+use lib.Bits.{bit_and, and_mask}
+use lib.Pow.{pow-lt}
 
-pub mask : (w : ℕ) → w ≤ 16 → 1 * 2 ^ w % 2 ^ 64 ≡ 2 ^ w
+mask : (w : ℕ) → w ≤ 16 → 1 * 2 ^ w % 2 ^ 64 ≡ 2 ^ w
 mask w h = ap (λ (n : ℕ). n % 2 ^ 64) (one-mul (2 ^ w)) ∙ mod-eq_of_lt (pow-lt {i = w} {j = 64} (omega arith))
-
-pub masked_small : (w x : ℕ) → w ≤ 16 → bit_and x (1 * 2 ^ w % 2 ^ 64 - 1) < 2 ^ 16
-masked_small w x h = rw (mask w h) (le_trans (mask_lt x w) (pow_mono {i = w} {j = 16} h))
 
 pub masked : (w x : ℕ) → w ≤ 16 → bit_and x (1 * 2 ^ w % 2 ^ 64 - 1) ≡ x % 2 ^ w
 masked w x h = rw (mask w h) (and_mask x w)

@@ -11,4 +11,4 @@ returns c = let a = c.args in
     let e : a.at ≡ 8 * (a.at / 8) + a.at % 8 = omega arith in
     c.low_bits.ensures
     ∙ rw c.four_at.ensures
-    (sym (ap (λ (k : ℕ). value_at a.s.now k a.width) e ∙ value_word 4 a.s.now (a.at / 8) (a.at % 8) a.width (λ i. (c.shared_slice_known-1.given i).fits) (omega arith) (omega arith)))
+    (sym (ap (λ (k : ℕ). value_at a.s.now k a.width) e ∙ value_word 4 a.s.now (a.at / 8) (a.at % 8) a.width (λ i. (c.type_inv.s i).fits) (omega arith) (omega arith)))

@@ -30,9 +30,6 @@ pub write_two-requires-then-y-lt1000 : goal.write_two-requires-then-y-lt1000
 write_two-requires-then-y-lt1000 c = let three = digits_three 1 c.args.x c.if-y-lt100.false c.if-y-lt1000.true in
     (omega arith, simp length-set (omega (arith, c.requires.1, ap length three)))
 
-pub shape_of-out-then-y-lt1000 : goal.shape_of-out-then-y-lt1000
-shape_of-out-then-y-lt1000 c = c.write_two-then-y-lt1000.auto.out ∙ simp length-set
-
 pub returns-then-y-lt1000 : goal.returns-then-y-lt1000
 returns-then-y-lt1000 c = let rest = c.args.x - 100 * (c.args.x / 100) in
     let three = digits_three 1 c.args.x c.if-y-lt100.false c.if-y-lt1000.true in

