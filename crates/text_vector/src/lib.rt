@@ -32,8 +32,8 @@ impl From<TooManySigns> for TextFault {
 }
 
 // The vector of the tree with n leaves whose pairs are recorded, at the front of vector.
-fn pairs_vector(m: &[u32; CELLS], n: usize, vector: &mut [u16; 1024])
-    requires le_n { (1 ≤ n) × (n ≤ 1024) }
+fn pairs_vector(m: &[u32; CELLS], n: usize, vector: &mut [u16])
+    requires le_n { (1 ≤ n) × (n ≤ 1024) × (n ≤ length vector.old) }
     requires table_of { (t : Tree) × TableOf n t (recorded_rows n (drop 1040 m.now)) }
     ensures { (t : Tree) → TableOf n t (recorded_rows n (drop 1040 m.now)) → vector.new ≡ vector_of t ++ drop n vector.old }
 {

@@ -7,7 +7,7 @@ children_vector-requires c =
     let P = c.requires in
     let L = c.children.ensures in
     record {
-      le_n = (P.le_n.0, P.le_n.1, search rules, search rules, omega (arith, P.le_n.1, c.told-vector));
+      le_n = (P.le_n.0, P.le_n.1, search rules, search rules, P.le_n.2);
       children = (_, kept_children _ _ _ _ _ _ _ P.table_of.1 (omega (arith, length-drop 1040 c.args.m.now, P.le_n.1, c.told-m)) L.left_after L.right_after);
     }
 

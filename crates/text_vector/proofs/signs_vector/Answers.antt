@@ -1,4 +1,4 @@
-use Rattle.std.proofs.Common.{ℕ, ◌≤◌, List, length, replicate}
+use Rattle.std.proofs.Common.{arith, ℕ, ◌≤◌, List, length, replicate}
 use Rattle.std.proofs.lemmas.List.{length-replicate}
 use Rattle.blanks.specs.Kept.{kept}
 use Rattle.text_laws.proofs.Cells.{replicate_all_zero}
@@ -37,7 +37,7 @@ pub pairs_vector-requires : goal.pairs_vector-requires
 pairs_vector-requires c =
     let T = taken c.requires.0 c.requires.1 c.in-Ok.ensures in
     let few = c.if-n-gt1024.false in
-    record { le_n = (some_labels T, few); table_of = (_, table_read T few (rw c.if-not-each_once.false at c.each_once.ensures)) }
+    record { le_n = (some_labels T, few, omega (arith, c.told-vector)); table_of = (_, table_read T few (rw c.if-not-each_once.false at c.each_once.ensures)) }
 
 pub returns : goal.returns
 returns c =
