@@ -153,6 +153,7 @@ pub fn clade_table(archive: &[u8], out: &mut [Clade]) -> Answer
         guesses: [0u16; GUESSES],
     };
     let answer = checked(archive, out.len(), &mut held);
+    // How many entries there are is not known before the last batch is used up, so `ready` ends the loop, and not a range.
     let mut i = 0;
     while ready(archive, &mut held, i) {
         out[i] = entry(&held, i);

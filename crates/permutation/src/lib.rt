@@ -6,7 +6,7 @@ ghost use Rattle.std.proofs.Math.Option.{none, some};
 ghost use Rattle.rules.specs.Shuffle.{permutation_fault};
 ghost use Rattle.permutation.specs.Marks.{Mark};
 
-// Whether x is below n and has no flag yet. If so it gets one.
+// Whether x is below n and has no flag yet. If so it gets one. Flags are the numbers 0 and 1, as basics' Flagged has them.
 fn mark(flags: &mut [u8; 1024], x: u16, n: usize) -> bool
     requires { n ≤ 1024 }
     ensures { Mark n x flags.old result flags.new }
