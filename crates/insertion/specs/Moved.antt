@@ -1,10 +1,10 @@
 -- One element leaves a list and another goes in: what a store after a move by one place makes of a list.
--- Main definitions: ins, moved. Main results: ins_take, stored_down, stored_up, drop_moved, window_down, window_up.
-use Rattle.std.specs.Prelude.{◌≡◌, refl, List, [], ◌∷◌, ◌++◌, ℕ, zero, suc, ◌+◌, ◌-◌, ◌≤◌, ◌<◌, length, take, get_or, set}
-use Rattle.std.proofs.Common.{sym, ap, ◌∙◌, zero-add, add-one, arith, length-append, length-take, length-drop, length-set, ext_get_or, get_or-set_same, get_or-set_other, take-take, drop-drop}
+-- Main definitions: ins, moved, Down, Up. Main results: ins_take, drop_moved, window_down, window_up, and start, next, end of the two loops.
+use Rattle.std.specs.Prelude.{◌≡◌, refl, Bool, true, false, List, [], ◌∷◌, ◌++◌, ℕ, zero, suc, ◌+◌, ◌-◌, ◌≤◌, ◌<◌, ltb, length, take, get_or, set}
+use Rattle.std.proofs.Common.{sym, ap, ◌∙◌, zero-add, add-one, arith, length-append, length-take, length-drop, length-set, ext_get_or, take-take, drop-drop, ltb-true, ltb-false}
 use Rattle.std.proofs.Math.ListN.{drop}
 use Rattle.std.proofs.lemmas.List.{take-append-le}
-use Rattle.basics.proofs.Cases.{by_lt, by_eq}
+use Rattle.lists.specs.Front.{mix, mix_step, mix_down, mix_length, mix_above, mix_below}
 
 -- a at position s of l
 unfoldable pub ins : {A : Type 0} → ℕ → A → List A → List A
@@ -94,39 +94,116 @@ module _ (e s a : ℕ) (l : List ℕ) (fe : e < length l) (fs : s < length l) wh
   unfolding moved
   moved_up k h g = ins_behind s k a (take e l ++ drop (suc e) l) h cut_fits ∙ cut_before e k l g
 
--- The elements behind e, as far as s, have moved down by one, and a is stored at s.
-pub stored_down : (e s a : ℕ) (l m : List ℕ) → e ≤ s → s < length l → length m ≡ length l
-    → ((k : ℕ) → e ≤ k → k < s → get_or m k 0 ≡ get_or l (suc k) 0)
-    → ((k : ℕ) → k < e → get_or m k 0 ≡ get_or l k 0) → ((k : ℕ) → s ≤ k → get_or m k 0 ≡ get_or l k 0)
-    → set m s a ≡ moved e s a l
-stored_down e s a l m h f same between before behind =
-    let fe : e < length l = omega arith in
-    ext_get_or 0 (set m s a) (moved e s a l) (length-set m s a ∙ same ∙ sym (moved_length e s a l fe f))
-    (λ k g. by_eq k s
-    (λ q. rw q (get_or-set_same m s a 0 (omega arith) ∙ sym (moved_here e s a l fe f)))
-    (λ d. get_or-set_other m s k a 0 d ∙ by_lt k s
-    (λ low. by_lt k e
-    (λ first. before k first ∙ sym (moved_before e s a l fe f k first low))
-    (λ from. between k from low ∙ sym (moved_down e s a l fe f k from low)))
-    (λ high. let z : suc (k - 1) ≡ k = omega arith in
-    behind k high ∙ sym (rw z at (moved_behind e s a l fe f (k - 1) (omega arith) (omega arith))))))
+-- two lists of one length that agree from k on, or before k
+agree_behind : (b o : List ℕ) (k : ℕ) → k ≤ length b → length b ≡ length o → ((t : ℕ) → k ≤ t → get_or o t 0 ≡ get_or b t 0) → mix k b o ≡ b
+agree_behind b o k h e f = ext_get_or 0 (mix k b o) b (mix_length b o k h (omega arith) ∙ sym e) (λ t l. go t (ltb t k) refl)
+  where
+    go : (t : ℕ) (q : Bool) → ltb t k ≡ q → get_or (mix k b o) t 0 ≡ get_or b t 0
+    go t true q = mix_below b o k t h (ltb-true t k q)
+    go t false q = mix_above b o k t h (ltb-false t k q) ∙ f t (ltb-false t k q)
 
--- Those from s on, as far as e, have moved up by one.
-pub stored_up : (e s a : ℕ) (l m : List ℕ) → s ≤ e → e < length l → length m ≡ length l
-    → ((k : ℕ) → s ≤ k → k < e → get_or m (suc k) 0 ≡ get_or l k 0)
-    → ((k : ℕ) → k ≤ s → get_or m k 0 ≡ get_or l k 0) → ((k : ℕ) → e < k → get_or m k 0 ≡ get_or l k 0)
-    → set m s a ≡ moved e s a l
-stored_up e s a l m h f same between before behind =
-    let fs : s < length l = omega arith in
-    ext_get_or 0 (set m s a) (moved e s a l) (length-set m s a ∙ same ∙ sym (moved_length e s a l f fs))
-    (λ k g. by_eq k s
-    (λ q. rw q (get_or-set_same m s a 0 (omega arith) ∙ sym (moved_here e s a l f fs)))
-    (λ d. get_or-set_other m s k a 0 d ∙ by_lt k s
-    (λ low. before k (omega arith) ∙ sym (moved_before e s a l f fs k (omega arith) low))
-    (λ from. let z : suc (k - 1) ≡ k = omega arith in
-    by_lt e k
-    (λ high. behind k high ∙ sym (rw z at (moved_behind e s a l f fs (k - 1) (omega arith) (omega arith))))
-    (λ to. rw z at (between (k - 1) (omega arith) (omega arith) ∙ sym (moved_up e s a l f fs (k - 1) (omega arith) (omega arith)))))))
+agree_before : (b o : List ℕ) (k : ℕ) → k ≤ length b → length b ≡ length o → ((t : ℕ) → t < k → get_or b t 0 ≡ get_or o t 0) → mix k b o ≡ o
+agree_before b o k h e f = ext_get_or 0 (mix k b o) o (mix_length b o k h (omega arith)) (λ t l. go t (ltb t k) refl)
+  where
+    go : (t : ℕ) (q : Bool) → ltb t k ≡ q → get_or (mix k b o) t 0 ≡ get_or o t 0
+    go t true q = mix_below b o k t h (ltb-true t k q) ∙ f t (ltb-true t k q)
+    go t false q = mix_above b o k t h (ltb-false t k q)
+
+-- the loop that moves down: what lies before k is final
+pub record Down (xs₀ : List ℕ) (e s a : ℕ) (xs : List ℕ) (k : ℕ) : Type 0 where
+  pub fit : s < length xs₀
+  pub low : e ≤ k
+  pub high : k ≤ s
+  pub same : length xs ≡ length xs₀
+  pub mixed : xs ≡ mix k (moved e s a xs₀) xs₀
+
+pub down_start : {xs₀ : List ℕ} {e s a : ℕ} → e ≤ s → s < length xs₀ → Down xs₀ e s a xs₀ e
+down_start {xs₀} {e} {s} {a} h g =
+    let l = moved_length e s a xs₀ (omega arith) g in
+    record {
+      fit = g;
+      low = omega arith;
+      high = h;
+      same = refl;
+      mixed = sym (agree_before (moved e s a xs₀) xs₀ e (omega arith) l (λ t m. moved_before e s a xs₀ (omega arith) g t m (omega arith)));
+    }
+
+pub down_next : {xs₀ : List ℕ} {e s a : ℕ} {xs : List ℕ} {k : ℕ} → Down xs₀ e s a xs k → k < s → Down xs₀ e s a (set xs k (get_or xs (k + 1) 0)) (k + 1)
+down_next {xs₀} {e} {s} {a} {xs} {k} D h =
+    let f = D.fit in
+    let l = moved_length e s a xs₀ (omega arith) D.fit in
+    let v : get_or xs (k + 1) 0 ≡ get_or (moved e s a xs₀) k 0 =
+    rw D.mixed
+    (mix_above (moved e s a xs₀) xs₀ k (k + 1) (omega arith) (omega arith)
+    ∙ rw add-one (sym (moved_down e s a xs₀ (omega arith) D.fit k D.low h))) in
+    record {
+      fit = D.fit;
+      low = omega arith;
+      high = omega arith;
+      same = length-set xs k _ ∙ D.same;
+      mixed = rw (v, D.mixed) (mix_step (moved e s a xs₀) xs₀ k (omega arith) (omega arith));
+    }
+
+pub down_end : {xs₀ : List ℕ} {e s a : ℕ} {xs : List ℕ} {k : ℕ} → Down xs₀ e s a xs k → s ≤ k → set xs s a ≡ moved e s a xs₀
+down_end {xs₀} {e} {s} {a} {xs} {k} D h =
+    let f = D.fit in
+    let l = moved_length e s a xs₀ (omega arith) D.fit in
+    let q : k ≡ s = omega arith in
+    rw (D.mixed, q)
+    (ap (set (mix s (moved e s a xs₀) xs₀) s) (sym (moved_here e s a xs₀ (omega arith) D.fit))
+    ∙ mix_step (moved e s a xs₀) xs₀ s (omega arith) (omega arith)
+    ∙ agree_behind (moved e s a xs₀) xs₀ (s + 1) (omega arith) l
+    (λ t m. let z : t ≡ suc (t - 1) = omega arith in rw z (sym (moved_behind e s a xs₀ (omega arith) D.fit (t - 1) (omega arith) (omega arith)))))
+
+-- the loop that moves up: what lies behind k is final
+pub record Up (xs₀ : List ℕ) (e s a : ℕ) (xs : List ℕ) (k : ℕ) : Type 0 where
+  pub fit : e < length xs₀
+  pub low : s ≤ k
+  pub high : k ≤ e
+  pub same : length xs ≡ length xs₀
+  pub mixed : xs ≡ mix (k + 1) xs₀ (moved e s a xs₀)
+
+pub up_start : {xs₀ : List ℕ} {e s a : ℕ} → s ≤ e → e < length xs₀ → Up xs₀ e s a xs₀ e
+up_start {xs₀} {e} {s} {a} h g =
+    let l = moved_length e s a xs₀ g (omega arith) in
+    record {
+      fit = g;
+      low = h;
+      high = omega arith;
+      same = refl;
+      mixed =
+          sym (agree_behind xs₀ (moved e s a xs₀) (e + 1) (omega arith) (sym l)
+          (λ t m. let z : t ≡ suc (t - 1) = omega arith in rw z (moved_behind e s a xs₀ g (omega arith) (t - 1) (omega arith) (omega arith))));
+    }
+
+pub up_next : {xs₀ : List ℕ} {e s a : ℕ} {xs : List ℕ} {k : ℕ} → Up xs₀ e s a xs k → s < k → Up xs₀ e s a (set xs k (get_or xs (k - 1) 0)) (k - 1)
+up_next {xs₀} {e} {s} {a} {xs} {k} U h =
+    let f = U.fit in
+    let l = moved_length e s a xs₀ U.fit (omega arith) in
+    let z : suc (k - 1) ≡ k = omega arith in
+    let y : k - 1 + 1 ≡ k = omega arith in
+    let v : get_or xs (k - 1) 0 ≡ get_or (moved e s a xs₀) k 0 =
+    rw U.mixed
+    (mix_below xs₀ (moved e s a xs₀) (k + 1) (k - 1) (omega arith) (omega arith)
+    ∙ sym (rw z at (moved_up e s a xs₀ U.fit (omega arith) (k - 1) (omega arith) (omega arith)))) in
+    record {
+      fit = U.fit;
+      low = omega arith;
+      high = omega arith;
+      same = length-set xs k _ ∙ U.same;
+      mixed = rw (v, U.mixed, y) (mix_down xs₀ (moved e s a xs₀) k (omega arith) (omega arith));
+    }
+
+pub up_end : {xs₀ : List ℕ} {e s a : ℕ} {xs : List ℕ} {k : ℕ} → Up xs₀ e s a xs k → k ≤ s → set xs s a ≡ moved e s a xs₀
+up_end {xs₀} {e} {s} {a} {xs} {k} U h =
+    let f = U.fit in
+    let l = moved_length e s a xs₀ U.fit (omega arith) in
+    let q : k ≡ s = omega arith in
+    rw (U.mixed, q)
+    (ap (set (mix (s + 1) xs₀ (moved e s a xs₀)) s) (sym (moved_here e s a xs₀ U.fit (omega arith)))
+    ∙ mix_down xs₀ (moved e s a xs₀) s (omega arith) (omega arith)
+    ∙ agree_before xs₀ (moved e s a xs₀) s (omega arith) (sym l)
+    (λ t m. sym (moved_before e s a xs₀ U.fit (omega arith) t (omega arith) m)))
 
 -- what stands before both places has no part in it
 pub drop_moved : (lo e s a : ℕ) (l : List ℕ) → lo + e < length l → drop lo (moved (lo + e) (lo + s) a l) ≡ moved e s a (drop lo l)

@@ -1,15 +1,23 @@
--- `move_down` meets its contract: what is copied, and that all else stays (`stored_down`).
+-- `move_down` meets its contract: what lies before k more names is final.
 use native.Mathlib.Omega.{arith}
 use mathlib.Core.Path.{◌≡◌}
-use Prim.Native.Nat.{suc, ◌+◌, ◌-◌}
-use Rattle.insertion.specs.Moved.{stored_down}
+use Prim.Native.Nat.{◌+◌, ◌-◌}
+use lib.ListN.{length-set}
+use Rattle.insertion.specs.Moved.{down_start, down_next, down_end}
 use Rattle.insertion.proofs.move_down.Goals as goal
 
+pub loop-k-init : goal.loop-k-init
+loop-k-init c =
+    let start : c.args.at - c.args.count + 0 ≡ c.args.at - c.args.count = omega arith in
+    rw start (down_start (omega arith) c.requires.1)
+
+pub loop-k-preserved : goal.loop-k-preserved
+loop-k-preserved c =
+    let next : c.args.at - c.args.count + (c.loop-k.k + 1) ≡ c.args.at - c.args.count + c.loop-k.k + 1 = omega arith in
+    rw next (down_next c.loop-k.invariant (omega arith))
+
+pub shape_of-list : goal.shape_of-list
+shape_of-list c = simp length-set c.loop-k.invariant.same
+
 pub returns : goal.returns
-returns c =
-    let a = c.args in
-    let e = a.at - a.count in
-    let copied = c.copy_within.ensures.by_index in
-    stored_down e a.at a.w a.list.now c.copy_within.new.self (omega arith) c.requires.1 c.copy_within.ensures.len
-    (λ k g h. let behind : e + 1 + (k - e) ≡ suc k = omega arith in rw behind at (copied.0 k 0 g (omega arith)))
-    (λ k h. copied.1 k 0 h) (λ k h. copied.2 k 0 (omega arith))
+returns c = down_end c.loop-k.invariant (omega arith)

@@ -1,14 +1,22 @@
--- `move_up` meets its contract: what is copied, and that all else stays (`stored_up`).
+-- `move_up` meets its contract: what lies behind k names is final.
 use native.Mathlib.Omega.{arith}
 use mathlib.Core.Path.{◌≡◌}
-use Prim.Native.Nat.{suc, ◌+◌, ◌-◌}
-use Rattle.insertion.specs.Moved.{stored_up}
+use Prim.Native.Nat.{◌+◌, ◌-◌}
+use lib.ListN.{length-set}
+use Rattle.insertion.specs.Moved.{up_start, up_next, up_end}
 use Rattle.insertion.proofs.move_up.Goals as goal
 
+pub loop-k-init : goal.loop-k-init
+loop-k-init c = up_start (omega arith) c.requires
+
+pub loop-k-preserved : goal.loop-k-preserved
+loop-k-preserved c =
+    let here : c.args.at + (c.loop-k.k - 1) + 1 ≡ c.args.at + c.loop-k.k = omega arith in
+    let next : c.args.at + (c.loop-k.k - 1) ≡ c.args.at + c.loop-k.k - 1 = omega arith in
+    rw (here, next) (up_next c.loop-k.invariant (omega arith))
+
+pub shape_of-list : goal.shape_of-list
+shape_of-list c = simp length-set c.loop-k.invariant.same
+
 pub returns : goal.returns
-returns c =
-    let a = c.args in
-    let copied = c.copy_within.ensures.by_index in
-    stored_up (a.at + a.count) a.at a.w a.list.now c.copy_within.new.self (omega arith) c.requires c.copy_within.ensures.len
-    (λ k g h. let before : a.at + (suc k - (a.at + 1)) ≡ k = omega arith in rw before at (copied.0 (suc k) 0 (omega arith) (omega arith)))
-    (λ k h. copied.1 k 0 (omega arith)) (λ k h. copied.2 k 0 (omega arith))
+returns c = up_end c.loop-k.invariant (omega arith)
