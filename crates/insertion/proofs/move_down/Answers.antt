@@ -2,7 +2,6 @@
 use native.Mathlib.Omega.{arith}
 use mathlib.Core.Path.{◌≡◌}
 use Prim.Native.Nat.{◌+◌, ◌-◌}
-use lib.ListN.{length-set}
 use Rattle.insertion.specs.Moved.{down_start, down_next, down_end}
 use Rattle.insertion.proofs.move_down.Goals as goal
 
@@ -15,9 +14,6 @@ pub loop-k-preserved : goal.loop-k-preserved
 loop-k-preserved c =
     let next : c.args.at - c.args.count + (c.loop-k.k + 1) ≡ c.args.at - c.args.count + c.loop-k.k + 1 = omega arith in
     rw next (down_next c.loop-k.invariant (omega arith))
-
-pub shape_of-list : goal.shape_of-list
-shape_of-list c = simp length-set c.loop-k.invariant.same
 
 pub returns : goal.returns
 returns c = down_end c.loop-k.invariant (omega arith)

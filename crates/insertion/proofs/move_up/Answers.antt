@@ -2,7 +2,6 @@
 use native.Mathlib.Omega.{arith}
 use mathlib.Core.Path.{◌≡◌}
 use Prim.Native.Nat.{◌+◌, ◌-◌}
-use lib.ListN.{length-set}
 use Rattle.insertion.specs.Moved.{up_start, up_next, up_end}
 use Rattle.insertion.proofs.move_up.Goals as goal
 
@@ -14,9 +13,6 @@ loop-k-preserved c =
     let here : c.args.at + (c.loop-k.k - 1) + 1 ≡ c.args.at + c.loop-k.k = omega arith in
     let next : c.args.at + (c.loop-k.k - 1) ≡ c.args.at + c.loop-k.k - 1 = omega arith in
     rw (here, next) (up_next c.loop-k.invariant (omega arith))
-
-pub shape_of-list : goal.shape_of-list
-shape_of-list c = simp length-set c.loop-k.invariant.same
 
 pub returns : goal.returns
 returns c = up_end c.loop-k.invariant (omega arith)
