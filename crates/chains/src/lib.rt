@@ -8,6 +8,7 @@
 ghost use Rattle.std.specs.Prelude.{◌≡◌, List, [], ◌∷◌, ◌++◌, ℕ, ◌≤◌, set};
 ghost use Rattle.rules.specs.Table.{Row};
 ghost use Rattle.chains.specs.Built.{Built, Adds};
+ghost use Rattle.chains.specs.Leaves.{Keyless};
 
 /// The key of a node without a pair: above every name.
 pub const NO_KEY: u16 = 1024;
@@ -24,25 +25,31 @@ pub struct Chains {
 }
 
 impl Chains {
-    /// The chains of n leaves before the first pair: each leaf is a node of its own.
-    pub fn of_leaves(n: usize) -> Chains
-        requires { n ≤ 1024 }
-        ensures { Built n [] result.names result.lows result.small result.next result.last }
+    /// No node and no pair. All are 0s, which are stored in place: what is stored later in a value that a function hands out is copied with it,
+    /// at some thousand instructions. So the leaves are added apart.
+    pub fn empty() -> Chains
+        ensures { Keyless 0 result.lows result.small result.next result.last }
     {
-        // 0s are stored in place, where an array of NO_KEY would be made apart and copied, at some thousand instructions. What fill stores in a part
-        // of a field is not known to the proof, so a loop stores the keys.
-        let mut chains = Chains {
+        Chains {
             names: [0; 2048],
             lows: [0; 2048],
             small: [0; 1024],
             next: [0; 1024],
             last: [0; 1024],
-        };
-        for k in 0..n {
-            chains.lows[k] = NO_KEY;
         }
-        lists::number_leaves(&mut chains.names, n);
-        chains
+    }
+
+    /// Adds n leaves to no node: each is a node of its own, and has no key. What fill stores in a part of a field is not known to the proof, so a
+    /// loop stores the keys.
+    pub fn add_leaves(&mut self, n: usize)
+        requires few { n ≤ 1024 }
+        requires fresh { Keyless 0 self.old.lows self.old.small self.old.next self.old.last }
+        ensures { Built n [] self.new.names self.new.lows self.new.small self.new.next self.new.last }
+    {
+        for k in 0..n {
+            self.lows[k] = NO_KEY;
+        }
+        lists::number_leaves(&mut self.names, n);
     }
 
     /// Adds the row of node p with the children l and r. a and i are the smaller and the larger of the children's names. The pair goes to the

@@ -29,7 +29,8 @@ pub fn children_vector(n: usize, left: &[u16], right: &[u16], vector: &mut [u16]
     requires children { (rs : List Row) × Children n left.now right.now rs }
     ensures { (rs : List Row) → Children n left.now right.now rs → vector.new ≡ vector_of (table_tree n rs) ++ drop n vector.old }
 {
-    let mut chains = Chains::of_leaves(n);
+    let mut chains = Chains::empty();
+    chains.add_leaves(n);
     add_children(n, left, right, &mut chains);
     order::vector_of(n, &chains, vector);
 }

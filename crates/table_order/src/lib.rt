@@ -12,7 +12,8 @@ pub fn table_vector(n: usize, rows: &[u16], vector: &mut [u16]) -> Result<(), Ro
     requires { (1 ≤ n) × (n ≤ 1024) × (length rows.now ≡ 3 * (n - 1)) × (n ≤ length vector.old) }
     ensures { Told n rows.now vector.old vector.new result }
 {
-    let mut chains = Chains::of_leaves(n);
+    let mut chains = Chains::empty();
+    chains.add_leaves(n);
     reading::read_rows(n, rows, &mut chains)?;
     order::vector_of(n, &chains, vector);
     Ok(())

@@ -4,7 +4,7 @@ use Rattle.children_order.proofs.children_vector.Goals as goal
 
 pub add_children-requires : goal.add_children-requires
 add_children-requires c = let given = c.requires in
-    record { le_n = given.le_n.0; added = added_start given.le_n.1 given.le_n.2 given.le_n.3 given.children c.of_leaves-chains.ensures }
+    record { le_n = given.le_n.0; added = added_start given.le_n.1 given.le_n.2 given.le_n.3 given.children c.add_leaves.ensures }
 
 pub vector_of-requires : goal.vector_of-requires
 vector_of-requires c = record { drawn = some_tree c.add_children.ensures (omega arith) c.requires.le_n.0; n_in_bounds = c.requires.le_n.4 }

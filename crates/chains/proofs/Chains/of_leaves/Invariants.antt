@@ -1,6 +1,0 @@
--- `of_leaves` meets its contract. The invariant: the first k leaves have no key yet.
-use Rattle.chains.specs.Leaves.{Keyless}
-use Rattle.chains.proofs.Chains.of_leaves.Given as goal
-
-abbrev pub invariant-loop-k : goal.invariant-loop-k
-invariant-loop-k l = Keyless l.k l.chains.lows l.chains.small l.chains.next l.chains.last
