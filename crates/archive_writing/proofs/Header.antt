@@ -1,24 +1,29 @@
 -- n and the tree count, put one behind the other, are the header.
--- Main result: header_put.
-use mathlib.Core.Path.{◌≡◌, refl, sym, ap, ◌∙◌}
+-- Main results: header_long, header_put.
+use mathlib.Core.Path.{◌≡◌, sym, ap, ◌∙◌}
 use mathlib.Core.List.{List, [], ◌++◌}
 use Prim.Native.Nat.{ℕ, ◌/◌}
 use native.Mathlib.Omega.{arith}
-use lib.ListN.{take, replicate}
+use lib.ListN.{length, take, replicate}
 use lib.Seq.{take-take}
 use Rattle.rules.specs.Record.{field}
 use Rattle.rules.specs.Archive.{header}
 use Rattle.record_laws.proofs.Bytes.{bytes_take}
-use Rattle.bit_writer.specs.Pending.{Held, Put, held_nothing}
-use Rattle.bit_writer.specs.declared.Pending.{Pending}
+use Rattle.std.specs.Borrow.{MutBor}
+use Rattle.bit_writer.specs.Pending.{Held, Begun, Put, held_nothing}
+use Rattle.bit_writer.specs.declared.Writer.{Writer}
 
-pub header_put : {z p q : Pending} {a b : List ℕ} (n count : ℕ) → z.bits ≡ 0 → Put z 11 n (replicate 9 0) p a → Put p 21 count a q b → take 4 b ≡ header n count
-unfolding header
-header_put {z} {p} {q} {a} {b} n count none leaves trees =
-    sym (take-take 4 5 b (omega arith)) ∙ ap (take 4) (rw four at held.stored) ∙ bytes_take 4 5 (field 11 n ++ field 21 count) (omega arith)
-  where
-    held : Held (field 11 n ++ field 21 count) q b
-    held = trees.held (field 11 n) (leaves.held [] (held_nothing z (replicate 9 0) none refl))
+module _ {out : MutBor (List ℕ)} {z p q : Writer} (n count : ℕ) (begun : Begun out z) (zeros : out.now ≡ replicate 9 0) (leaves : Put z 11 n p) (trees : Put p 21 count q) where
+  pub header_long : length q.out.now ≡ 9
+  header_long = trees.long ∙ leaves.long ∙ ap length (begun.now ∙ zeros)
 
-    four : q.bits / 8 ≡ 4
-    four = omega (arith, trees.count, leaves.count, none)
+  pub header_put : take 4 q.out.now ≡ header n count
+  unfolding header
+  header_put =
+      sym (take-take 4 5 q.out.now (omega arith)) ∙ ap (take 4) (rw four at held.stored) ∙ bytes_take 4 5 (field 11 n ++ field 21 count) (omega arith)
+    where
+      held : Held (field 11 n ++ field 21 count) q
+      held = trees.held (field 11 n) (leaves.held [] (held_nothing z begun.none (ap (take 1) (begun.now ∙ zeros))))
+
+      four : q.bits / 8 ≡ 4
+      four = omega (arith, trees.count, leaves.count, begun.none)

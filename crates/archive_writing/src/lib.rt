@@ -20,10 +20,11 @@ fn write_header(n: usize, count: usize, out: &mut [u8])
     ensures { out.new ≡ header n count ++ drop 4 out.old }
 {
     let mut built = [0u8; BUILT];
-    let none = bit_writer::nothing();
-    let leaves = bit_writer::put_bits(&mut built, none, lengths::COUNT_BITS, n as u64);
-    bit_writer::put_bits(&mut built, leaves, TREE_COUNT_BITS, count as u64);
-    lists::copy(&built, HEADER_BYTES, out);
+    let none = bit_writer::begin(&mut built);
+    let leaves = bit_writer::put_bits(none, lengths::COUNT_BITS, n as u64);
+    let both = bit_writer::put_bits(leaves, TREE_COUNT_BITS, count as u64);
+    let done = both.out;
+    lists::copy(done, HEADER_BYTES, out);
 }
 
 /// Writes the archive of valid vectors of n entries, one after another in a list, to the front of `out`. Each record has so many bytes.

@@ -1,11 +1,12 @@
 -- Bits on their way into bytes, and what it means to put a field behind them.
--- Main definitions: HoldsBits, Held, Room, Put, word_stored. Main results: held_nothing.
+-- Main definitions: HoldsBits, Held, Begun, Room, Put, word_stored. Main results: held_nothing.
 use Rattle.std.specs.Prelude.{◌≡◌, refl, List, [], ◌∷◌, ◌++◌, ℕ, ◌+◌, ◌*◌, ◌/◌, ◌%◌, ◌^◌, ◌≤◌, length, take, drop}
 use Rattle.std.specs.Int.{w64, to_be_bytes}
 use Rattle.std.proofs.Math.Nat.{mod-one}
 use Rattle.rules.specs.Record.{Bits, field, number, bytes_of}
 use Rattle.record_laws.specs.Number.{AreBits}
-use Rattle.bit_writer.specs.declared.Pending.{Pending}
+use Rattle.std.specs.Borrow.{MutBor}
+use Rattle.bit_writer.specs.declared.Writer.{Writer}
 
 -- The bits are in the buffer, zero bits following to the end of byte at, and those of that byte are the low bits of acc.
 pub record HoldsBits (bits : Bits) (acc have at : ℕ) (buffer : List ℕ) : Type 0 where
@@ -15,21 +16,29 @@ pub record HoldsBits (bits : Bits) (acc have at : ℕ) (buffer : List ℕ) : Typ
   pub stored : take (at + 1) buffer ≡ bytes_of (at + 1) bits
 
 -- So are the bits that are pending.
-abbrev pub Held : Bits → Pending → List ℕ → Type 0
-Held bits p buffer = HoldsBits bits p.acc (p.bits % 8) (p.bits / 8) buffer
+abbrev pub Held : Bits → Writer → Type 0
+Held bits w = HoldsBits bits w.acc (w.bits % 8) (w.bits / 8) w.out.now
 
-pub held_nothing : (p : Pending) (buffer : List ℕ) → p.bits ≡ 0 → take 1 buffer ≡ 0 ∷ [] → Held [] p buffer
+-- No bits are held yet, in the buffer that was lent.
+pub record Begun (out : MutBor (List ℕ)) (w : Writer) : Type 0 where
+  pub same : w.out.ghost_name ≡ out.ghost_name
+  pub now : w.out.now ≡ out.now
+  pub none : w.bits ≡ 0
+
+pub held_nothing : (w : Writer) → w.bits ≡ 0 → take 1 w.out.now ≡ 0 ∷ [] → Held [] w
 unfolding AreBits number bytes_of
-held_nothing p buffer e zero = rw e (record { are = tt; count = refl; value = mod-one p.acc; stored = zero })
+held_nothing w e zero = rw e (record { are = tt; count = refl; value = mod-one w.acc; stored = zero })
 
 -- There is room for a word, in a buffer whose bits can be counted.
-abbrev pub Room : Pending → ℕ → Type 0
-Room p room = (p.bits / 8 + 8 ≤ room) × (room ≤ 65536)
+abbrev pub Room : Writer → Type 0
+Room w = (w.bits / 8 + 8 ≤ length w.out.now) × (length w.out.now ≤ 65536)
 
--- One field more is held, whatever bits were held before it.
-pub record Put (p : Pending) (width x : ℕ) (before : List ℕ) (r : Pending) (after : List ℕ) : Type 0 where
-  pub count : r.bits ≡ p.bits + width
-  pub held : (bits : Bits) → Held bits p before → Held (bits ++ field width x) r after
+-- One field more is held in the same buffer, whatever bits were held before it.
+pub record Put (w : Writer) (width x : ℕ) (r : Writer) : Type 0 where
+  pub same : r.out.ghost_name ≡ w.out.ghost_name
+  pub long : length r.out.now ≡ length w.out.now
+  pub count : r.bits ≡ w.bits + width
+  pub held : (bits : Bits) → Held bits w → Held (bits ++ field width x) r
 
 -- eight bytes of a word in a buffer
 unfoldable pub word_stored : List ℕ → ℕ → ℕ → List ℕ

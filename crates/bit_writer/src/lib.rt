@@ -2,20 +2,25 @@
 #![tactic(auto)]
 
 ghost use Rattle.std.specs.Prelude.{◌≡◌, ◌+◌, ◌≤◌, ◌<◌, ◌^◌, length};
-ghost use Rattle.bit_writer.specs.Pending.{Room, Put, word_stored};
+ghost use Rattle.bit_writer.specs.Pending.{Begun, Room, Put, word_stored};
 
-/// Bits on their way into bytes: how many there are. Those that begin a byte and do not fill it are the low bits of `acc`.
+/// Bits on their way into bytes that are lent: how many there are. Those that begin a byte and do not fill it are the low bits of `acc`.
 #[derive(Drop)]
-pub struct Pending {
+pub struct Writer<'a> {
+    pub out: &'a mut [u8],
     pub acc: u64,
     pub bits: usize,
 }
 
 /// No bits are held.
-pub fn nothing() -> Pending
-    ensures { result.bits ≡ 0 }
+pub fn begin<'a>(out: &'a mut [u8]) -> Writer<'a>
+    ensures { Begun out.entry result }
 {
-    Pending { acc: 0, bits: 0 }
+    Writer {
+        out,
+        acc: 0,
+        bits: 0,
+    }
 }
 
 // Stores the eight bytes of a word.
@@ -28,26 +33,28 @@ fn store_word(out: &mut [u8], at: usize, word: u64)
 }
 
 /// Appends the `width` bits of x, one at least, by a word that ends in zero bits.
-pub fn put_bits(out: &mut [u8], p: Pending, width: u32, x: u64) -> Pending
-    requires { (1 ≤ width) × (width ≤ 56) × (x < 2 ^ width) × Room p (length out.old) }
-    ensures { Put p width x out.old result out.new }
+pub fn put_bits<'a>(w: Writer<'a>, width: u32, x: u64) -> Writer<'a>
+    requires { (1 ≤ width) × (width ≤ 56) × (x < 2 ^ width) × Room w }
+    ensures { Put w.entry width x result }
 {
-    let acc = (p.acc << width) | x;
-    let have = (p.bits % 8) as u32 + width;
-    store_word(out, p.bits / 8, acc << (64 - have));
-    Pending {
-        acc,
-        bits: p.bits + width as usize,
+    let Writer { out, acc, bits } = w;
+    let next = (acc << width) | x;
+    let have = (bits % 8) as u32 + width;
+    store_word(out, bits / 8, next << (64 - have));
+    Writer {
+        out,
+        acc: next,
+        bits: bits + width as usize,
     }
 }
 
 /// Appends the `width` bits of x, or nothing where it has none.
-pub fn put_field(out: &mut [u8], p: Pending, width: u32, x: u64) -> Pending
-    requires { (width ≤ 56) × (x < 2 ^ width) × Room p (length out.old) }
-    ensures { Put p width x out.old result out.new }
+pub fn put_field<'a>(w: Writer<'a>, width: u32, x: u64) -> Writer<'a>
+    requires { (width ≤ 56) × (x < 2 ^ width) × Room w }
+    ensures { Put w.entry width x result }
 {
     if width == 0 {
-        return p;
+        return w;
     }
-    put_bits(out, p, width, x)
+    put_bits(w, width, x)
 }

@@ -13,19 +13,21 @@ use Rattle.record_laws.specs.Fields.{Fit}
 use Rattle.record_laws.proofs.Fields.{fields_take}
 use Rattle.four_entries.specs.Four.{four_of}
 use Rattle.bit_writer.specs.Pending.{Room, Put}
-use Rattle.bit_writer.specs.declared.Pending.{Pending}
+use Rattle.bit_writer.specs.declared.Writer.{Writer}
 use Rattle.runs.specs.Runs.{Run}
 use Rattle.entry_writer.specs.Entries.{PutEntries, Due}
 use Rattle.runs.proofs.Runs.{run_four, run_wide, total_four}
 
-pub put_then : {v : List ℕ} {i m end : ℕ} {p q r : Pending} {a b d : List ℕ} → PutEntries v i m p a q b → PutEntries v m end q b r d → PutEntries v i end p a r d
-put_then f g = record { count = omega (arith, f.count, g.count); held = λ front h. g.held front (f.held front h) }
+pub put_then : {v : List ℕ} {i m end : ℕ} {p q r : Writer} → PutEntries v i m p q → PutEntries v m end q r → PutEntries v i end p r
+put_then f g = record { same = g.same ∙ f.same; long = g.long ∙ f.long; count = omega (arith, f.count, g.count); held = λ front h. g.held front (f.held front h) }
 
 -- a field more, whose bits are those of the entries from i to m
-put_more : {v : List ℕ} {i : ℕ} {p r : Pending} {a b : List ℕ} (m w x : ℕ) → Put p w x a r b → total m ≡ total i + w
-    → fields 0 (take m v) ≡ fields 0 (take i v) ++ field w x → PutEntries v i m p a r b
+put_more : {v : List ℕ} {i : ℕ} {p r : Writer} (m w x : ℕ) → Put p w x r → total m ≡ total i + w
+    → fields 0 (take m v) ≡ fields 0 (take i v) ++ field w x → PutEntries v i m p r
 put_more {v} {i} m w x put e f =
     record {
+      same = put.same;
+      long = put.long;
       count = omega (arith, put.count);
       held = λ front h. rw (f, ← append_assoc front (fields 0 (take i v)) (field w x)) (put.held (front ++ fields 0 (take i v)) h);
     }
@@ -62,7 +64,7 @@ module _ (v : List ℕ) (i w : ℕ) (h : i + 4 ≤ length v) (e : (j : ℕ) → 
       (simp append_assoc)
 
 -- fewer entries are due
-pub due_fewer : {v : List ℕ} {i end : ℕ} {p : Pending} {room : ℕ} (m : ℕ) → Due v i end p room → i ≤ m → m ≤ end → Due v i m p room
+pub due_fewer : {v : List ℕ} {i end : ℕ} {p : Writer} (m : ℕ) → Due v i end p → i ≤ m → m ≤ end → Due v i m p
 due_fewer {end = end} m d a b =
     record {
       some_put = d.some_put;
@@ -75,59 +77,64 @@ due_fewer {end = end} m d a b =
     }
 
 -- while the entries from i₀ to end are put, those up to i have been
-pub record Ahead (v : List ℕ) (i₀ end : ℕ) (out₀ : List ℕ) (p₀ : Pending) (out : List ℕ) (p : Pending) (i : ℕ) : Type 0 where
-  pub same : length out ≡ length out₀
+pub record Ahead (v : List ℕ) (i₀ end : ℕ) (p₀ p : Writer) (i : ℕ) : Type 0 where
   pub since : i₀ ≤ i
-  pub due : Due v i end p (length out₀)
-  pub put : PutEntries v i₀ i p₀ out₀ p out
+  pub due : Due v i end p
+  pub put : PutEntries v i₀ i p₀ p
 
-pub ahead_start : {v : List ℕ} {i end : ℕ} {p : Pending} {out : List ℕ} → Due v i end p (length out) → Ahead v i end out p out p i
-ahead_start d = record { same = refl; since = omega arith; due = d; put = record { count = refl; held = λ front h. h } }
+pub ahead_start : {v : List ℕ} {i end : ℕ} {p : Writer} → Due v i end p → Ahead v i end p p i
+ahead_start d = record { since = omega arith; due = d; put = record { same = refl; long = refl; count = refl; held = λ front h. h } }
 
-module _ {v : List ℕ} {i₀ end : ℕ} {out₀ : List ℕ} {p₀ : Pending} {out : List ℕ} {p : Pending} {i : ℕ} (o : Ahead v i₀ end out₀ p₀ out p i) where
+module _ {v : List ℕ} {i₀ end : ℕ} {p₀ p : Writer} {i : ℕ} (o : Ahead v i₀ end p₀ p i) where
   -- fewer entries are due
-  pub ahead_due : (m : ℕ) → i ≤ m → m ≤ end → Due v i m p (length out)
-  ahead_due m a b = rw o.same (due_fewer m o.due a b)
+  pub ahead_due : (m : ℕ) → i ≤ m → m ≤ end → Due v i m p
+  ahead_due m a b = due_fewer m o.due a b
 
   -- more entries are put
-  pub ahead_more : (m : ℕ) (r : Pending) (after : List ℕ) → i ≤ m → m ≤ end → length after ≡ length out → PutEntries v i m p out r after
-      → Ahead v i₀ end out₀ p₀ after r m
-  ahead_more m r after a b e put =
+  pub ahead_more : (m : ℕ) (r : Writer) → i ≤ m → m ≤ end → PutEntries v i m p r → Ahead v i₀ end p₀ r m
+  ahead_more m r a b put =
       let d = o.due in
       record {
-        same = e ∙ o.same;
         since = omega (arith, o.since);
-        due = record { some_put = omega (arith, d.some_put); most = b; whole = d.whole; few = d.few; fit = d.fit; fits = omega (arith, d.fits, put.count); short = d.short };
+        due =
+            record {
+              some_put = omega (arith, d.some_put);
+              most = b;
+              whole = d.whole;
+              few = d.few;
+              fit = d.fit;
+              fits = omega (arith, d.fits, put.count, put.long);
+              short = omega (arith, d.short, put.long);
+            };
         put = put_then o.put put;
       }
 
   -- there is room for a word
-  pub ahead_room : i ≤ end → Room p (length out)
-  ahead_room h = (omega (arith, o.due.fits, o.same, total_mono i end h), omega (arith, o.due.short, o.same))
+  pub ahead_room : i ≤ end → Room p
+  ahead_room h = (omega (arith, o.due.fits, total_mono i end h), o.due.short)
 
   module _ (h : i < end) where
-    pub ahead_fits : (width i ≤ 11) × (get_or v i 0 < 2 ^ width i) × Room p (length out)
+    pub ahead_fits : (width i ≤ 11) × (get_or v i 0 < 2 ^ width i) × Room p
     unfolding Fit
     ahead_fits = (width_most i (omega (arith, o.due.whole, o.due.few)), o.due.fit i (omega (arith, o.due.whole)), ahead_room (omega arith))
 
-    pub ahead_one : (r : Pending) (after : List ℕ) → length after ≡ length out → Put p (width i) (get_or v i 0) out r after → Ahead v i₀ end out₀ p₀ after r (i + 1)
-    ahead_one r after e put =
-        ahead_more (i + 1) r after (omega arith) (omega arith) e
+    pub ahead_one : (r : Writer) → Put p (width i) (get_or v i 0) r → Ahead v i₀ end p₀ r (i + 1)
+    ahead_one r put =
+        ahead_more (i + 1) r (omega arith) (omega arith)
         (put_more (i + 1) (width i) (get_or v i 0) put (rw (add-one i) (total_suc i)) (rw (add-one i) (fields_take v i (omega (arith, o.due.whole)))))
 
 -- all entries are put
-pub ahead_end : {v : List ℕ} {i₀ end : ℕ} {out₀ : List ℕ} {p₀ : Pending} {out : List ℕ} {p : Pending} {i : ℕ} → Ahead v i₀ end out₀ p₀ out p i → end ≤ i
-    → PutEntries v i₀ end p₀ out₀ p out
+pub ahead_end : {v : List ℕ} {i₀ end : ℕ} {p₀ p : Writer} {i : ℕ} → Ahead v i₀ end p₀ p i → end ≤ i → PutEntries v i₀ end p₀ p
 ahead_end {end = end} {i = i} o h = let e : i ≡ end = omega (arith, o.due.most) in rw e at o.put
 
 -- the same within a run of one width, four by four
-pub record Along (v : List ℕ) (i₀ end : ℕ) (out₀ : List ℕ) (w : ℕ) (p₀ : Pending) (out : List ℕ) (p : Pending) (i : ℕ) : Type 0 where
-  pub ahead : Ahead v i₀ end out₀ p₀ out p i
+pub record Along (v : List ℕ) (i₀ end w : ℕ) (p₀ p : Writer) (i : ℕ) : Type 0 where
+  pub ahead : Ahead v i₀ end p₀ p i
   pub run : Run i₀ end
   pub four : i % 4 ≡ 1
   pub wide : w ≡ width i₀
 
-module _ {v : List ℕ} {i₀ end : ℕ} {out₀ : List ℕ} {w : ℕ} {p₀ : Pending} {out : List ℕ} {p : Pending} {i : ℕ} (r : Along v i₀ end out₀ w p₀ out p i) (h : i < end) where
+module _ {v : List ℕ} {i₀ end w : ℕ} {p₀ p : Writer} {i : ℕ} (r : Along v i₀ end w p₀ p i) (h : i < end) where
   next : (i + 4 ≤ end) × ((j : ℕ) → i ≤ j → j < i + 4 → width j ≡ w)
   next = run_four i w r.run r.ahead.since r.four h r.wide
 
@@ -138,14 +145,14 @@ module _ {v : List ℕ} {i₀ end : ℕ} {out₀ : List ℕ} {w : ℕ} {p₀ : P
   along_wide = run_wide w r.run (omega (arith, r.ahead.since, r.ahead.due.whole, r.ahead.due.few)) r.wide
 
   -- the next four entries fit
-  pub along_fits : (i + 4 ≤ length v) × ((j : ℕ) → i ≤ j → j < i + 4 → get_or v j 0 < 2 ^ w) × Room p (length out)
+  pub along_fits : (i + 4 ≤ length v) × ((j : ℕ) → i ≤ j → j < i + 4 → get_or v j 0 < 2 ^ w) × Room p
   along_fits = (inside, small v i w inside next.1 r.ahead.due.fit, ahead_room r.ahead (omega arith))
 
-  pub along_next : (q : Pending) (after : List ℕ) → length after ≡ length out → Put p (4 * w) (four_of v i w) out q after → Along v i₀ end out₀ w p₀ after q (i + 4)
-  along_next q after e put =
+  pub along_next : (q : Writer) → Put p (4 * w) (four_of v i w) q → Along v i₀ end w p₀ q (i + 4)
+  along_next q put =
       record {
         ahead =
-            ahead_more r.ahead (i + 4) q after (omega arith) next.0 e
+            ahead_more r.ahead (i + 4) q (omega arith) next.0
             (put_more (i + 4) (4 * w) (four_of v i w) put (total_four i w next.1) (fields_four v i w inside next.1 r.ahead.due.fit));
         run = r.run;
         four = omega (arith, r.four);

@@ -8,22 +8,22 @@ ghost use Rattle.rules.specs.Archive.{bare_length, bare_record};
 ghost use Rattle.entry_writer.specs.Entries.{PutEntries, Due};
 ghost use Rattle.packing.specs.Behind.{bytes_behind, packed_behind, Fits};
 
-use bit_writer::Pending;
+use bit_writer::Writer;
 
 // The bytes in which a record is built: those of the longest, and a word behind them.
 const BUILT: usize = 1288;
 
 // Appends the fields of the entries to the bits that are held. Room for a word behind them is wanted.
-fn put_entries(v: &[u16], out: &mut [u8], p: Pending) -> Pending
-    requires { Due v.now 1 (length v.now) p (length out.old) }
-    ensures { PutEntries v.now 1 (length v.now) p out.old result out.new }
+fn put_entries<'a>(v: &[u16], w: Writer<'a>) -> Writer<'a>
+    requires { Due v.now 1 (length v.now) w }
+    ensures { PutEntries v.now 1 (length v.now) w.entry result }
 {
     let n = v.len();
     let first = runs::FIRST_FOUR.min(n);
     let last = runs::fours_end(first, 0, n);
-    let fours = entry_writer::put_singles(v, 1, first, out, p);
-    let rest = entry_writer::put_fours(v, first, last, out, fours);
-    entry_writer::put_singles(v, last, n, out, rest)
+    let fours = entry_writer::put_singles(v, 1, first, w);
+    let rest = entry_writer::put_fours(v, first, last, fours);
+    entry_writer::put_singles(v, last, n, rest)
 }
 
 // Writes so many bits of x, and behind them the fields of a valid vector, to the front of `out`. They are built in an array of their own,
@@ -33,10 +33,12 @@ fn pack_behind(v: &[u16], width: u32, x: u64, out: &mut [u8])
     ensures { out.new ≡ packed_behind width x v.now ++ drop (bytes_behind width (length v.now)) out.old }
 {
     let mut built = [0u8; BUILT];
-    let none = bit_writer::nothing();
-    let front = bit_writer::put_field(&mut built, none, width, x);
-    let p = put_entries(v, &mut built, front);
-    lists::copy(&built, (p.bits + 7) / 8, out);
+    let none = bit_writer::begin(&mut built);
+    let front = bit_writer::put_field(none, width, x);
+    let p = put_entries(v, front);
+    let bytes = (p.bits + 7) / 8;
+    let done = p.out;
+    lists::copy(done, bytes, out);
 }
 
 /// Writes the record of a valid vector to the front of `out`.

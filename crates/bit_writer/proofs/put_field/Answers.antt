@@ -6,8 +6,10 @@ use Rattle.bit_writer.proofs.put_field.Goals as goal
 
 pub returns-then-width-eq0 : goal.returns-then-width-eq0
 returns-then-width-eq0 c = let a = c.args in
-    let p = a.p in
+    let w = a.w in
     record {
+      same = search rules;
+      long = search rules;
       count = search rules;
-      held = λ bits r. none_held bits p.acc (p.bits % 8) (p.bits / 8) a.out.now a.width a.x c.if-width-eq0.true r;
+      held = λ bits r. none_held bits w.acc (w.bits % 8) (w.bits / 8) w.out.now a.width a.x c.if-width-eq0.true r;
     }

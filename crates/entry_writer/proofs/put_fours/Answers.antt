@@ -22,12 +22,9 @@ pub loop-k-preserved : goal.loop-k-preserved
 loop-k-preserved c =
     let e = c.run_end-e.ensures in
     let r = c.put_run-q in (
-      ahead_more c.loop-k.invariant.0 _ r.result r.new.out (omega (arith, e.0)) e.1 r.auto.out r.ensures,
+      ahead_more c.loop-k.invariant.0 _ r.result (omega (arith, e.0)) e.1 r.ensures,
       λ h. fours_on (c.loop-k.invariant.1 c.loop-k-test.true) (omega (arith, e.0)) e.2,
     )
-
-pub shape_of-out : goal.shape_of-out
-shape_of-out c = c.loop-k.invariant.0.same
 
 pub returns : goal.returns
 returns c = ahead_end c.loop-k.invariant.0 c.loop-k-test.false

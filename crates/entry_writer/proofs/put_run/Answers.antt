@@ -4,10 +4,10 @@ use Rattle.entry_writer.proofs.Putting.{ahead_start, ahead_end, along_wide, alon
 use Rattle.entry_writer.proofs.put_run.Goals as goal
 
 pub loop-k-init : goal.loop-k-init
-loop-k-init c = record { ahead = ahead_start c.requires.0; run = c.requires.1; four = c.requires.1.fours.first; wide = c.field_width-w.ensures }
+loop-k-init c = record { ahead = ahead_start c.requires.0; run = c.requires.1; four = c.requires.1.fours.first; wide = c.field_width-width.ensures }
 
-pub overflow_mul-w : goal.overflow_mul-w
-overflow_mul-w c = omega (arith, along_wide c.loop-k.invariant c.loop-k-test.true)
+pub overflow_mul-width : goal.overflow_mul-width
+overflow_mul-width c = omega (arith, along_wide c.loop-k.invariant c.loop-k-test.true)
 
 pub four_from-requires : goal.four_from-requires
 four_from-requires c =
@@ -21,11 +21,8 @@ put_bits-q-requires c =
 
 pub loop-k-preserved : goal.loop-k-preserved
 loop-k-preserved c =
-    along_next c.loop-k.invariant c.loop-k-test.true c.put_bits-q.result c.put_bits-q.new.out c.put_bits-q.auto.out
+    along_next c.loop-k.invariant c.loop-k-test.true c.put_bits-q.result
     (rw c.four_from.ensures.0 at c.put_bits-q.ensures)
-
-pub shape_of-out : goal.shape_of-out
-shape_of-out c = c.loop-k.invariant.ahead.same
 
 pub returns : goal.returns
 returns c = ahead_end c.loop-k.invariant.ahead c.loop-k-test.false
@@ -34,4 +31,4 @@ returns c = ahead_end c.loop-k.invariant.ahead c.loop-k-test.false
 pub returns-2 : goal.returns-2
 returns-2 c =
     let q = c.put_bits-q in
-    ahead_end (along_next c.loop-k.invariant c.loop-k-test.true q.result q.new.out q.auto.out (rw c.four_from.ensures.0 at q.ensures)).ahead (omega arith)
+    ahead_end (along_next c.loop-k.invariant c.loop-k-test.true q.result (rw c.four_from.ensures.0 at q.ensures)).ahead (omega arith)

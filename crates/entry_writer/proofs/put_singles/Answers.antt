@@ -16,7 +16,7 @@ put_field-q-requires c =
 
 pub loop-k-preserved : goal.loop-k-preserved
 loop-k-preserved c =
-    ahead_one c.loop-k.invariant c.loop-k-test.true c.put_field-q.result c.put_field-q.new.out c.put_field-q.auto.out
+    ahead_one c.loop-k.invariant c.loop-k-test.true c.put_field-q.result
     (rw (c.from.ensures, c.field_width.ensures) at c.put_field-q.ensures)
 
 pub returns : goal.returns

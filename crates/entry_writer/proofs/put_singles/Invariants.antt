@@ -3,4 +3,4 @@ use Rattle.entry_writer.proofs.Putting.{Ahead}
 use Rattle.entry_writer.proofs.put_singles.Given as goal
 
 abbrev pub invariant-loop-k : goal.invariant-loop-k
-invariant-loop-k l = Ahead l.v l.i l.end l.initial.out l.initial.q l.out l.q l.k
+invariant-loop-k l = Ahead l.v l.i l.end l.initial.q l.q l.k
