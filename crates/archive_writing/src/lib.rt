@@ -23,6 +23,7 @@ fn write_header(n: usize, count: usize, out: &mut [u8])
     let none = bit_writer::begin(&mut built);
     let leaves = bit_writer::put_bits(none, lengths::COUNT_BITS, n as u64);
     let both = bit_writer::put_bits(leaves, TREE_COUNT_BITS, count as u64);
+    // Read through the writer: once it is gone, a proof knows no more of the array than its length.
     let done = both.out;
     lists::copy(done, HEADER_BYTES, out);
 }

@@ -37,6 +37,7 @@ pub fn read_fours<'a>(r: Reader<'a>, i: usize, end: usize, out: &mut [u16]) -> R
     requires { Left r.bytes.now r.at i end 48 (length out.old) × (i < end → Fours i end) }
     ensures { Read r.entry i end out.old result out.new }
 {
+    // No range: the next run starts where this one ends.
     let mut q = r;
     let mut k = i;
     while k < end {

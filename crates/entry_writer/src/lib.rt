@@ -37,6 +37,7 @@ pub fn put_fours<'a>(v: &[u16], i: usize, end: usize, w: Writer<'a>) -> Writer<'
     requires { Due v.now i end w × (i < end → Fours i end) }
     ensures { PutEntries v.now i end w.entry result }
 {
+    // No range: the next run starts where this one ends.
     let mut q = w;
     let mut k = i;
     while k < end {

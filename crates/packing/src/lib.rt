@@ -37,6 +37,7 @@ fn pack_behind(v: &[u16], width: u32, x: u64, out: &mut [u8])
     let front = bit_writer::put_field(none, width, x);
     let p = put_entries(v, front);
     let bytes = (p.bits + 7) / 8;
+    // Read through the writer: once it is gone, a proof knows no more of the array than its length.
     let done = p.out;
     lists::copy(done, bytes, out);
 }

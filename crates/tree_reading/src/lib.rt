@@ -37,6 +37,7 @@ fn read_bare(bytes: &[u8], n: usize, vector: &mut [u16; 1024]) -> Result<usize, 
     requires { (1 ≤ n) × (n ≤ 1024) × (length bytes.now ≡ bare_length n) }
     ensures { Gives (bare_made n bytes.now) vector.new result }
 {
+    // As in unpacking, but for the faults and where the fields start: one function for both would take a conversion of faults.
     match read_entries(bytes, 0, n, vector) {
         Ok(()) => Ok(n),
         Err(EntryFault::Entry(i)) => Err(TreeFault::Entry(i)),

@@ -25,6 +25,7 @@ fn read_headed(s: &[u8], n: usize, vector: &mut [u16; 1024]) -> Result<usize, Re
     requires { Headed s.now n }
     ensures { Unpacks s.now vector.new result }
 {
+    // As in tree_reading, but for the faults and where the fields start: one function for both would take a conversion of faults.
     match read_entries(s, COUNT_BITS as usize, n, vector) {
         Ok(()) => Ok(n),
         Err(EntryFault::Entry(i)) => Err(RecordFault::Entry(i)),
