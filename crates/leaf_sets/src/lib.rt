@@ -25,8 +25,7 @@ fn merged_sets(merges: &Merges, n: usize, clusters: &mut [u64], sets: &mut [u64]
     ensures { sets.new ≡ held_sets merges.now.list merges.now.small merges.now.start n ++ drop (n - 1) sets.old }
 {
     for t in 0..n - 1 {
-        let b = usize::from(merges.list[merges.start + t]);
-        let a = usize::from(merges.small[b]);
+        let (a, b) = merges.pair(t);
         let both = clusters[a] + clusters[b];
         clusters[a] = both;
         sets[t] = both;

@@ -1,6 +1,7 @@
 // The merges of a vector: their larger names in a list that grows at both ends, their smaller names by larger name.
 #![tactic(auto)]
 
+ghost use Rattle.std.specs.Prelude.{◌≡◌, ◌+◌, ◌<◌, ◌^◌, length, get_or};
 ghost use Rattle.rules.specs.Vector.{Vector};
 ghost use Rattle.merges.specs.Built.{NextLeaf, Put, MergesOf};
 
@@ -50,5 +51,17 @@ impl Merges {
             lo = put(&mut self.list, &mut self.small, lo, i, v[i]);
         }
         self.start = lo;
+    }
+
+    /// The smaller and the larger name of merge t.
+    pub fn pair(&self, t: usize) -> (usize, usize)
+        requires in_list { self.now.start + t < length self.now.list }
+        requires in_small { get_or self.now.list (self.now.start + t) 0 < length self.now.small }
+        ensures smaller { result.0 ≡ get_or self.now.small result.1 0 }
+        ensures larger { result.1 ≡ get_or self.now.list (self.now.start + t) 0 }
+        ensures in_16_bits { (result.0 < 2 ^ 16) × (result.1 < 2 ^ 16) }
+    {
+        let larger = usize::from(self.list[self.start + t]);
+        (usize::from(self.small[larger]), larger)
     }
 }

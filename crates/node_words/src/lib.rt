@@ -24,8 +24,7 @@ fn pair_words(merges: &Merges, n: usize, number: &mut [u16], words: &mut [u32])
     ensures { Paired n (held_rows merges.now.list merges.now.small merges.now.start n) words.new }
 {
     for t in 0..n - 1 {
-        let b = usize::from(merges.list[merges.start + t]);
-        let a = usize::from(merges.small[b]);
+        let (a, b) = merges.pair(t);
         words[n + t] = pair_word(number[a], number[b]);
         number[a] = (n + t) as u16;
     }

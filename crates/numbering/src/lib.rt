@@ -14,8 +14,7 @@ pub fn children(merges: &Merges, n: usize, number: &mut [u16], left: &mut [u16],
     ensures right_after { right.new ≡ map second (held_rows merges.now.list merges.now.small merges.now.start n) ++ drop (n - 1) right.old }
 {
     for t in 0..n - 1 {
-        let b = usize::from(merges.list[merges.start + t]);
-        let a = usize::from(merges.small[b]);
+        let (a, b) = merges.pair(t);
         left[t] = number[a];
         right[t] = number[b];
         number[a] = (n + t) as u16;

@@ -8,19 +8,17 @@ use Rattle.node_words.proofs.pair_words.Goals as goal
 pub loop-t-init : goal.loop-t-init
 loop-t-init c = pairing_start c.requires.0 c.requires.1
 
-pub bounds-merges-b : goal.bounds-merges-b
-bounds-merges-b c =
-    let T = next_merge c.loop-t.invariant.numbered c.loop-t-test.true c.from-b.ensures refl in
-    omega (arith, T.name_b, T.few)
+pub pair-a-requires-clause-in_small : goal.pair-a-requires-clause-in_small
+pair-a-requires-clause-in_small c = (next_merge c.loop-t.invariant.numbered c.loop-t-test.true refl refl).in_small
 
 pub bounds-number-a : goal.bounds-number-a
-bounds-number-a c = omega (arith, pairing_room c.loop-t.invariant c.loop-t-test.true c.from-b.ensures c.from-a.ensures)
+bounds-number-a c = omega (arith, pairing_room c.loop-t.invariant c.loop-t-test.true c.pair-a.ensures.larger c.pair-a.ensures.smaller)
 
 pub bounds-number-b : goal.bounds-number-b
-bounds-number-b c = omega (arith, pairing_room c.loop-t.invariant c.loop-t-test.true c.from-b.ensures c.from-a.ensures)
+bounds-number-b c = omega (arith, pairing_room c.loop-t.invariant c.loop-t-test.true c.pair-a.ensures.larger c.pair-a.ensures.smaller)
 
 pub bounds-number-a-in-loop-t : goal.bounds-number-a-in-loop-t
-bounds-number-a-in-loop-t c = omega (arith, pairing_room c.loop-t.invariant c.loop-t-test.true c.from-b.ensures c.from-a.ensures)
+bounds-number-a-in-loop-t c = omega (arith, pairing_room c.loop-t.invariant c.loop-t-test.true c.pair-a.ensures.larger c.pair-a.ensures.smaller)
 
 pub loop-t-preserved : goal.loop-t-preserved
-loop-t-preserved c = pairing_next c.loop-t.invariant c.loop-t-test.true c.from-b.ensures c.from-a.ensures c.pair_word.ensures
+loop-t-preserved c = pairing_next c.loop-t.invariant c.loop-t-test.true c.pair-a.ensures.larger c.pair-a.ensures.smaller c.pair_word.ensures
