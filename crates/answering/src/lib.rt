@@ -1,4 +1,6 @@
 // The shared answer, as the public calls make it: a refusal, and the end of a call that has its numbers in an array.
+//
+// `Answer` has the shape of a Result, and stays an enum of its own: the rules name it, and each promise is over it (rules specs/Promise).
 #![tactic(auto)]
 
 ghost use Rattle.std.specs.Prelude.{◌≡◌, ◌≤◌, length, take};

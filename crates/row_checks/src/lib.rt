@@ -6,7 +6,8 @@ ghost use Rattle.row_checks.specs.Verdict.{placed};
 ghost use Rattle.row_checks.specs.Misplaced.{misplacement};
 ghost use Rattle.row_checks.specs.Mark.{mark};
 
-/// What stands for the name of a node that a row has named as a child.
+/// What stands for the name of a node that a row has named as a child. It is no Option, since names are numbers of 16 bits, and one sum tells of
+/// both children whether a mark is among them.
 pub const MARK: u16 = 65535;
 
 /// The first row of a table that is refused: for its parent, for a child that is not below its parent, or for a child that was named

@@ -14,6 +14,7 @@ ghost use Rattle.text_writer.specs.Output.{sign_places, NodeRoom, TextRoom, Stan
 use label_words::{FOURTH, LEAVES, WORDS};
 
 // How many bytes the array has that a text is written to: the longest text has 6,056, and a label's word may pass its end.
+// text_cells has a constant of its own for the room to read a text from, which is as large by chance.
 pub const SIGNS: usize = 6144;
 
 // The four bytes of a word, the lowest first.

@@ -9,7 +9,7 @@ ghost use Rattle.rules.specs.Vector.{fault};
 fn excess(x: u16, bound: u16) -> u16
     ensures { (result ≤ 1) × (result ≡ 0 → x ≤ bound) }
 {
-    if bound < x { 1 } else { 0 }
+    u16::from(bound < x)
 }
 
 // How many of the entries behind the first are above their bounds. No branch leaves this loop, so it becomes vector code.
