@@ -2,7 +2,8 @@
 //
 // A pair is named by its larger name, and its key is the least larger name of the pairs in its subtree. Pairs merge by falling key, and
 // those of one key from the bottom up: they are a chain, whose first name is the key. Arrays by larger name: small[i] is the smaller name
-// of the pair, next[i] the next pair of its chain (0 at the end), last[k] the last pair of the chain of key k (0 where there is none).
+// of the pair, next[i] the next pair of its chain (0 at the end), last[k] the last pair of the chain of key k (0 where there is none). There is
+// no heap, so a chain goes on by its place.
 #![tactic(auto)]
 
 ghost use Rattle.std.specs.Prelude.{◌≡◌, List, [], ◌∷◌, ◌++◌, ℕ, ◌≤◌, set};

@@ -24,6 +24,7 @@ pub struct Merges {
 // list that starts at lo. The result is where the list starts then. An entry that names a leaf moves nothing, and so do half of
 // all entries of a random tree: that case comes first. The difference is taken in 16 bits, so that the compiler does not carry
 // four sums of it from leaf to leaf. Both cases store the smaller name last, which becomes one store for both.
+// It takes two arrays and not Merges: as a method it was tried, and the proof of fill lost their lengths.
 fn put(list: &mut [u16], small: &mut [u16], lo: usize, i: usize, x: u16) -> usize
     requires { NextLeaf list.old small.old lo i x }
     ensures { Put list.old small.old lo i x list.new small.new result }
