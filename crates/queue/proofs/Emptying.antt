@@ -13,7 +13,6 @@ use Rattle.shuffle_laws.proofs.Handed.{outcome_end, outcome_new}
 use Rattle.shuffle_laws.specs.Zipped.{zipped_rows, zipped_nodes, zipped_tree, Tabled}
 use Rattle.shuffle_laws.proofs.Zipped.{some_leaf, length_zipped, zipped_nodes_lem}
 use Rattle.queue.specs.Waits.{queue_at, Waits, Lent, Placed, waits_place, outcome_place, waits_start, queue_none}
-use Rattle.queue.proofs.Taking.{lent_placed}
 
 pub root_tree : (n : ℕ) (left right : List ℕ) → 1 ≤ n → zipped_tree n left right ≡ zipped_nodes n left right (2 * n - 2)
 unfolding table_tree
@@ -27,43 +26,39 @@ result n left right nodes labels new head tail =
 
 -- The loop, which began with the lists of index ₀ and the end tail₀: the state of the queue, and that its result stays.
 pub record Emptying (n : ℕ) (left right nodes₀ labels₀ new₀ : List ℕ) (tail₀ : ℕ) (nodes labels new : List ℕ) (head tail : ℕ) : Type 0 where
-  pub lent : Lent n left right nodes labels new
   pub within : head ≤ n - 1
   pub state : Waits n (zipped_nodes n left right) nodes labels head tail 0
   pub same : result n left right nodes₀ labels₀ new₀ 0 tail₀ ≡ result n left right nodes labels new head tail
-  pub long : length new ≡ length new₀
 
 -- the root has joined the queue
 pub emptying_start : {n tail : ℕ} {left right nodes labels new nodes' labels' new' : List ℕ}
-    → Lent n left right nodes labels new × Tabled n left right
+    → length nodes ≡ 1024 → length labels ≡ 1024 → Lent n left right × Tabled n left right
     → Placed n (2 * n - 2) 0 0 nodes labels new tail nodes' labels' new'
     → Emptying n left right nodes' labels' new' tail nodes' labels' new' 0 tail
-emptying_start {n} {tail} {left} {right} {nodes} {labels} (L, B) P =
+emptying_start {n} {tail} {left} {right} {nodes} {labels} k l (L, B) P =
     let h = some_leaf B in
     let e = root_tree n left right h in
     record {
-      lent = lent_placed L P;
       within = omega arith;
       state =
           waits_place (zipped_nodes_lem n left right B.accepted) (waits_start nodes labels (2 * n - 2) (rw e at B.leaves))
-          (omega arith) (rw e at B.turned) (omega (arith, L.nodes_room)) (omega (arith, L.labels_room)) P;
+          (omega arith) (rw e at B.turned) (omega (arith, L.small)) (omega (arith, L.small)) P;
       same = refl;
-      long = refl;
     }
 
 -- what comes out once the root has joined the queue
 pub start_result : {n tail : ℕ} {left right nodes labels new nodes' labels' new' : List ℕ}
-    → Lent n left right nodes labels new × Tabled n left right
+    → length nodes ≡ 1024 → length labels ≡ 1024 → length new ≡ 1024 → Lent n left right × Tabled n left right
     → Placed n (2 * n - 2) 0 0 nodes labels new tail nodes' labels' new'
     → result n left right nodes' labels' new' 0 tail ≡ new_of (zipped_tree n left right) ++ drop n new
-start_result {n} {tail} {left} {right} {nodes} {labels} {new} {nodes'} {labels'} {new'} (L, B) P =
+start_result {n} {tail} {left} {right} {nodes} {labels} {new} {nodes'} {labels'} {new'} k l m (L, B) P =
     let h = some_leaf B in
     let all : n - 1 ≡ n - 1 - 0 = omega arith in
     let high : 2 * n - 2 < n + (n - 1) = omega arith in
-    sym (sym (outcome_new B.leaves new L.room)
+    sym (sym (outcome_new B.leaves new (omega (arith, L.small)))
     ∙ ap (λ (t : Tree). outcome (n - 1) 1 [] ((t, 0) ∷ []) new) (root_tree n left right h)
     ∙ ap (λ (q : Queue). outcome (n - 1) 1 q ((zipped_nodes n left right (2 * n - 2), 0) ∷ []) new) (sym (queue_none (zipped_nodes n left right) nodes labels 0))
-    ∙ outcome_place (zipped_nodes_lem n left right B.accepted) (n - 1) 1 [] (omega arith) high (omega (arith, L.nodes_room)) (omega (arith, L.labels_room)) P
+    ∙ outcome_place (zipped_nodes_lem n left right B.accepted) (n - 1) 1 [] (omega arith) high (omega (arith, L.small)) (omega (arith, L.small)) P
     ∙ ap (λ (k : ℕ). outcome k 1 (queue_at (zipped_nodes n left right) nodes' labels' 0 tail) [] new') all)
 
 -- every inner node has been taken

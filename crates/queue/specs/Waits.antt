@@ -37,18 +37,15 @@ pub record Waits (n : ℕ) (T : Clusters) (nodes labels : List ℕ) (head tail m
   pub turned : (j : ℕ) → j < tail → Turned (T (get_or nodes j 0))
   pub count : head + inner_in (queue_at T nodes labels head tail) + more ≡ n - 1
 
--- The lent lists are long enough.
-pub record Lent (n : ℕ) (left right nodes labels new : List ℕ) : Type 0 where
+-- The lent rows are long enough.
+pub record Lent (n : ℕ) (left right : List ℕ) : Type 0 where
   pub small : n ≤ 1024
   pub lefts : n - 1 ≤ length left
   pub rights : n - 1 ≤ length right
-  pub nodes_room : length nodes ≡ 1024
-  pub labels_room : length labels ≡ 1024
-  pub room : n ≤ length new
 
 -- The next node can be taken from the queue.
-pub record CanTake (n : ℕ) (T : Clusters) (left right nodes labels new : List ℕ) (head tail : ℕ) : Type 0 where
-  pub lent : Lent n left right nodes labels new
+pub record CanTake (n : ℕ) (T : Clusters) (left right nodes labels : List ℕ) (head tail : ℕ) : Type 0 where
+  pub lent : Lent n left right
   pub shape : NodesFrom n T left right
   pub state : Waits n T nodes labels head tail 0
   pub more : head < n - 1

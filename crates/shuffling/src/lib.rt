@@ -7,6 +7,8 @@ ghost use Rattle.rules.specs.Tree.{tree_of};
 ghost use Rattle.rules.specs.Order.{vector_of};
 ghost use Rattle.rules.specs.Shuffle.{renamed, new_of};
 
+use queue::Queue;
+
 // Queue Shuffle of v's tree: the new labels at the front of new, the vector of the relabelled tree at the front of vector.
 pub fn shuffled(v: &[u16], new: &mut [u16], vector: &mut [u16])
     requires { Vector v.now × (length v.now ≤ length new.old) × (length v.now ≤ length vector.old) }
@@ -17,12 +19,10 @@ pub fn shuffled(v: &[u16], new: &mut [u16], vector: &mut [u16])
     let mut left = [0u16; 1024];
     let mut right = [0u16; 1024];
     vector_rows::rows_of(v, &mut left, &mut right);
-    let mut nodes = [0u16; 1024];
-    let mut labels = [0u16; 1024];
-    let mut new_labels = [0u16; 1024];
-    queue::queue(n, &left, &right, &mut nodes, &mut labels, &mut new_labels);
+    let mut queue = Queue::empty();
+    queue.shuffle(n, &left, &right);
     let mut entries = [0u16; 1024];
-    renaming::rename_rows(v, &new_labels[..n], &mut left, &mut right, &mut entries);
-    lists::copy(&new_labels, n, new);
+    renaming::rename_rows(v, &queue.given[..n], &mut left, &mut right, &mut entries);
+    lists::copy(&queue.given, n, new);
     lists::copy(&entries, n, vector);
 }
