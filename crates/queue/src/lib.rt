@@ -7,14 +7,13 @@ ghost use Rattle.shuffle_laws.specs.Handed.{outcome};
 ghost use Rattle.shuffle_laws.specs.Zipped.{zipped_nodes, zipped_tree, Tabled};
 ghost use Rattle.queue.specs.Waits.{queue_at, Waits, Lent, CanTake, Placed};
 
-/// The queue: the inner nodes that joined it, in order, and their labels, up to `tail`. Beside it the new labels of the leaves that have
+/// The queue: the inner nodes that joined it, in order, and their labels. Beside it the new labels of the leaves that have
 /// theirs (`new` is no name for a field: clauses read it as what a reference points to afterwards).
 #[derive(Drop)]
 pub struct Queue {
     pub nodes: [u16; 1024],
     pub labels: [u16; 1024],
     pub given: [u16; 1024],
-    pub tail: usize,
 }
 
 impl Queue {
@@ -24,41 +23,47 @@ impl Queue {
             nodes: [0; 1024],
             labels: [0; 1024],
             given: [0; 1024],
-            tail: 0,
         }
     }
 
-    // A leaf gets its label; another node goes to the back of the queue with it.
-    fn place(&mut self, n: usize, child: u16, label: u16)
-        requires { (n ≤ 1024) × (self.old.tail < 1024) }
-        ensures { Placed n child label self.old.tail self.old.nodes self.old.labels self.old.given
-            self.new.tail self.new.nodes self.new.labels self.new.given }
+    // A leaf gets its label; another node goes to the back of the queue with it. The result is where the queue ends then: as a field it
+    // takes two instructions more for each node of the queue.
+    fn place(&mut self, n: usize, child: u16, label: u16, tail: usize) -> usize
+        requires { (n ≤ 1024) × (tail < 1024) }
+        ensures { Placed n child label tail self.old.nodes self.old.labels self.old.given result self.new.nodes self.new.labels self.new.given }
     {
         let at = usize::from(child);
         if at < n {
             self.given[at] = label;
-        } else {
-            self.nodes[self.tail] = child;
-            self.labels[self.tail] = label;
-            self.tail += 1;
+            return tail;
         }
+        self.nodes[tail] = child;
+        self.labels[tail] = label;
+        tail + 1
     }
 
     // Takes the front of the queue: its first child keeps the label, the second takes the next label, which is the number of nodes
-    // taken by then. Both join the queue, the keeper first.
-    fn take_front(&mut self, n: usize, head: usize, left: &[u16], right: &[u16])
-        requires { CanTake n (zipped_nodes n left.now right.now) left.now right.now self.old.nodes self.old.labels head self.old.tail }
-        ensures { Waits n (zipped_nodes n left.now right.now) self.new.nodes self.new.labels (head + 1) self.new.tail 0
-            × (outcome (n - 1 - head) (head + 1) (queue_at (zipped_nodes n left.now right.now) self.old.nodes self.old.labels head self.old.tail) [] self.old.given
-            ≡ outcome (n - 1 - (head + 1)) (head + 1 + 1) (queue_at (zipped_nodes n left.now right.now) self.new.nodes self.new.labels (head + 1) self.new.tail) [] self.new.given) }
+    // taken by then. Both join the queue, the keeper first. The result is where the queue ends then.
+    fn take_front(
+        &mut self,
+        n: usize,
+        head: usize,
+        tail: usize,
+        left: &[u16],
+        right: &[u16],
+    ) -> usize
+        requires { CanTake n (zipped_nodes n left.now right.now) left.now right.now self.old.nodes self.old.labels head tail }
+        ensures { Waits n (zipped_nodes n left.now right.now) self.new.nodes self.new.labels (head + 1) result 0
+            × (outcome (n - 1 - head) (head + 1) (queue_at (zipped_nodes n left.now right.now) self.old.nodes self.old.labels head tail) [] self.old.given
+            ≡ outcome (n - 1 - (head + 1)) (head + 1 + 1) (queue_at (zipped_nodes n left.now right.now) self.new.nodes self.new.labels (head + 1) result) [] self.new.given) }
     {
         let row = usize::from(self.nodes[head]) - n;
         let label = self.labels[head];
         let next = (head + 1) as u16;
         let first = left[row];
         let second = right[row];
-        self.place(n, first, label);
-        self.place(n, second, next);
+        let mid = self.place(n, first, label, tail);
+        self.place(n, second, next, mid)
     }
 
     /// Queue Shuffle over the rows of a tree with n leaves: row t's children are left[t] and right[t], the child with the smaller least
@@ -68,11 +73,10 @@ impl Queue {
         requires { Lent n left.now right.now × Tabled n left.now right.now }
         ensures { self.new.given ≡ new_of (zipped_tree n left.now right.now) ++ drop n self.old.given }
     {
-        self.tail = 0;
         let root = 2 * n - 2;
-        self.place(n, root as u16, 0);
+        let mut tail = self.place(n, root as u16, 0, 0);
         for head in 0..n - 1 {
-            self.take_front(n, head, left, right);
+            tail = self.take_front(n, head, tail, left, right);
         }
     }
 }

@@ -9,13 +9,13 @@ pub overflow_sub-root : goal.overflow_sub-root
 overflow_sub-root c = omega (arith, some_leaf c.requires.1)
 
 pub loop-head-init : goal.loop-head-init
-loop-head-init c = emptying_start (omega arith) (omega arith) c.requires c.place.ensures
+loop-head-init c = emptying_start (omega arith) (omega arith) c.requires c.place-tail.ensures
 
 pub overflow_sub-head-end : goal.overflow_sub-head-end
 overflow_sub-head-end c = omega (arith, some_leaf c.requires.1)
 
-pub take_front-requires : goal.take_front-requires
-take_front-requires c = record { lent = c.requires.0; shape = zipped_nodes_lem _ _ _ c.requires.1.accepted; state = c.loop-head.invariant.state; more = c.loop-head-test.true }
+pub take_front-tail-requires : goal.take_front-tail-requires
+take_front-tail-requires c = record { lent = c.requires.0; shape = zipped_nodes_lem _ _ _ c.requires.1.accepted; state = c.loop-head.invariant.state; more = c.loop-head-test.true }
 
 pub returns : goal.returns
-returns c = emptying_end c.loop-head.invariant c.loop-head-test.false ∙ start_result (omega arith) (omega arith) (omega arith) c.requires c.place.ensures
+returns c = emptying_end c.loop-head.invariant c.loop-head-test.false ∙ start_result (omega arith) (omega arith) (omega arith) c.requires c.place-tail.ensures

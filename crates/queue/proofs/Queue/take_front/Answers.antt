@@ -12,11 +12,11 @@ bounds-left-row c = omega (arith, (front_row c.requires).2, c.requires.lent.left
 pub bounds-right-row : goal.bounds-right-row
 bounds-right-row c = omega (arith, (front_row c.requires).2, c.requires.lent.rights, c.from.ensures)
 
-pub place-requires : goal.place-requires
-place-requires c = (c.requires.lent.small, (front_row c.requires).3)
+pub place-mid-requires : goal.place-mid-requires
+place-mid-requires c = (c.requires.lent.small, (front_row c.requires).3)
 
-pub place-requires-2 : goal.place-requires-2
-place-requires-2 c = (c.requires.lent.small, after_first c.requires (omega arith) (omega arith) c.from.ensures c.place.ensures)
+pub place-requires : goal.place-requires
+place-requires c = (c.requires.lent.small, after_first c.requires (omega arith) (omega arith) c.from.ensures c.place-mid.ensures)
 
 pub returns : goal.returns
-returns c = after_second c.requires (omega arith) (omega arith) c.from.ensures c.place.ensures c.place-2.ensures
+returns c = after_second c.requires (omega arith) (omega arith) c.from.ensures c.place-mid.ensures c.place.ensures
