@@ -27,7 +27,12 @@ pub fn to_table<'a>(v: &[u16], out: &'a mut [u16]) -> &'a [u16]
 {
     let given = trees::to_table(v, out);
     let rows = written(given, out);
-    line(format_args!("to_table {} : {} : {}", Listed(v), Shown(given), Listed(rows)));
+    line(format_args!(
+        "to_table {} : {} : {}",
+        Listed(v),
+        Shown(given),
+        Listed(rows)
+    ));
     rows
 }
 
@@ -35,7 +40,12 @@ pub fn from_table(leaves: usize, rows: &[u16]) {
     let mut out = [0u16; 1024];
     let given = trees::from_table(leaves, rows, &mut out);
     let v = written(given, &out);
-    line(format_args!("from_table {leaves} {} : {} : {}", Listed(rows), Shown(given), Listed(v)));
+    line(format_args!(
+        "from_table {leaves} {} : {} : {}",
+        Listed(rows),
+        Shown(given),
+        Listed(v)
+    ));
 }
 
 pub fn to_newick<'a>(v: &[u16], out: &'a mut [u8]) -> &'a [u8]
@@ -43,7 +53,12 @@ pub fn to_newick<'a>(v: &[u16], out: &'a mut [u8]) -> &'a [u8]
 {
     let given = trees::to_newick(v, out);
     let text = written(given, out);
-    line(format_args!("to_newick {} : {} : {}", Listed(v), Shown(given), Text(text)));
+    line(format_args!(
+        "to_newick {} : {} : {}",
+        Listed(v),
+        Shown(given),
+        Text(text)
+    ));
     text
 }
 
@@ -51,7 +66,12 @@ pub fn from_newick(text: &[u8]) {
     let mut out = [0u16; 1024];
     let given = trees::from_newick(text, &mut out);
     let v = written(given, &out);
-    line(format_args!("from_newick {} : {} : {}", Text(text), Shown(given), Listed(v)));
+    line(format_args!(
+        "from_newick {} : {} : {}",
+        Text(text),
+        Shown(given),
+        Listed(v)
+    ));
 }
 
 pub fn pack<'a>(v: &[u16], out: &'a mut [u8]) -> &'a [u8]
@@ -79,7 +99,13 @@ pub fn shuffle(v: &[u16]) {
         Answer::Done(_) => {
             let permutation = written(given, &new);
             let shuffled = written(given, &out);
-            line(format_args!("shuffle {} : {} : {} {}", Listed(v), Shown(given), Listed(permutation), Listed(shuffled)));
+            line(format_args!(
+                "shuffle {} : {} : {} {}",
+                Listed(v),
+                Shown(given),
+                Listed(permutation),
+                Listed(shuffled)
+            ));
         }
         Answer::Refused(_) => line(format_args!("shuffle {} : {} : -", Listed(v), Shown(given))),
     }
@@ -89,7 +115,13 @@ pub fn relabel(v: &[u16], p: &[u16]) {
     let mut out = [0u16; 1024];
     let given = trees::relabel(v, p, &mut out);
     let relabelled = written(given, &out);
-    line(format_args!("relabel {} {} : {} : {}", Listed(v), Listed(p), Shown(given), Listed(relabelled)));
+    line(format_args!(
+        "relabel {} {} : {} : {}",
+        Listed(v),
+        Listed(p),
+        Shown(given),
+        Listed(relabelled)
+    ));
 }
 
 pub fn write_archive<'a>(leaves: usize, entries: &[u16], out: &'a mut [u8]) -> &'a [u8]
@@ -97,7 +129,12 @@ pub fn write_archive<'a>(leaves: usize, entries: &[u16], out: &'a mut [u8]) -> &
 {
     let given = trees::write_archive(leaves, entries, out);
     let archive = written(given, out);
-    line(format_args!("write_archive {leaves} {} : {} : {}", Listed(entries), Shown(given), Hex(archive)));
+    line(format_args!(
+        "write_archive {leaves} {} : {} : {}",
+        Listed(entries),
+        Shown(given),
+        Hex(archive)
+    ));
     archive
 }
 
@@ -105,7 +142,12 @@ pub fn read_tree(archive: &[u8], tree: usize) {
     let mut out = [0u16; 1024];
     let given = trees::read_tree(archive, tree, &mut out);
     let v = written(given, &out);
-    line(format_args!("read_tree {} {tree} : {} : {}", Hex(archive), Shown(given), Listed(v)));
+    line(format_args!(
+        "read_tree {} {tree} : {} : {}",
+        Hex(archive),
+        Shown(given),
+        Listed(v)
+    ));
 }
 
 // It has no answer, but a place and a length.
@@ -114,7 +156,11 @@ pub fn view(archive: &[u8], tree: usize) {
     let start = part.start;
     let length = part.length;
     let viewed = trees::view(archive, tree);
-    line(format_args!("view {} {tree} : part {start} {length} : {}", Hex(archive), Hex(viewed)));
+    line(format_args!(
+        "view {} {tree} : part {start} {length} : {}",
+        Hex(archive),
+        Hex(viewed)
+    ));
 }
 
 // A vector to each form and each form back to a vector.
