@@ -25,9 +25,9 @@
  * null, has room for two numbers, and overlaps no list. No two lists that are lent to one call overlap, inputs and outputs
  * alike.
  *
- * Stack. In bytes, at the deepest, as measured with the older kit over trees of 1,024 leaves (bench/run --stack): check 0,
- * to_table 12,488, from_table 17,800, to_newick 55,400, from_newick 55,432, pack 2,128, unpack 4,304, shuffle 28,184,
- * relabel 22,024, write_archive 2,160, read_tree 4,336, view 2,096, clade_table 92,272 (over trees of 64 leaves), however
+ * Stack. In bytes, at the deepest, as measured over trees of 1,024 leaves (bench/run --stack): check 8,
+ * to_table 12,488, from_table 17,864, to_newick 55,400, from_newick 69,736, pack 1,416, unpack 2,256, shuffle 28,184,
+ * relabel 22,040, write_archive 1,480, read_tree 2,256, view 0, clade_table 92,256 (over trees of 64 leaves), however
  * many trees there are. Have 128 KiB free: nothing in the library looks whether there is enough.
  *
  * Answers. The last parameter points to two numbers that every call sets:
