@@ -1,6 +1,6 @@
 -- The first entry above its bound, of vectors one after another in a list, as its index in the list.
 -- Main definitions: first_fault_in, Searched.
--- Main results: fault_in_none, fault_in_some (what the index says); searched_next, searched_here, searched_end (the search).
+-- Main results: fault_in_none, fault_in_some (what the index says); none_numbered, some_numbered; searched_next, searched_here, searched_end (the search).
 use Rattle.std.specs.Prelude.{◌≡◌, refl, List, ℕ, zero, suc, ◌+◌, ◌*◌, ◌/◌, ◌≤◌, ◌<◌, length, take, drop}
 use Rattle.std.proofs.Common.{ap, ◌∙◌, arith}
 use Rattle.std.proofs.Math.Option.{Option, none, some, get_or, some-injective, none-ne-some}
@@ -52,6 +52,15 @@ fault_in_some n xs h = go (fault_in 0 (cut n (length xs / n) xs)) h
     go : (o : Option ℕ) → get_or o (length xs) < length xs → o ≡ some (get_or o (length xs))
     go none l = absurd (omega arith)
     go (some p) l = refl
+
+-- and which index says it
+pub none_numbered : (n : ℕ) (xs : List ℕ) → fault_in 0 (cut n (length xs / n) xs) ≡ none → length xs ≡ first_fault_in n xs
+unfolding first_fault_in
+none_numbered n xs e = rw e
+
+pub some_numbered : (n : ℕ) (xs : List ℕ) (i : ℕ) → fault_in 0 (cut n (length xs / n) xs) ≡ some i → i ≡ first_fault_in n xs
+unfolding first_fault_in
+some_numbered n xs i e = rw e
 
 -- the search: no fault before the vector at an index
 pub record Searched (n : ℕ) (xs : List ℕ) (at : ℕ) : Type 0 where

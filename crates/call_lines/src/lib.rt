@@ -4,7 +4,7 @@
 
 ghost use Rattle.std.specs.Prelude.{◌≤◌, length};
 
-use printing::{Hex, Listed, Shown, Text, line};
+use printing::{Hex, Listed, Shown, Text, begin, line};
 use rules::Answer;
 
 // What an answer says was written: nothing where it refuses or says more than there is room for.
@@ -66,12 +66,9 @@ pub fn from_newick(text: &[u8]) {
     let mut out = [0u16; 1024];
     let given = trees::from_newick(text, &mut out);
     let v = written(given, &out);
-    line(format_args!(
-        "from_newick {} : {} : {}",
-        Text(text),
-        Shown(given),
-        Listed(v)
-    ));
+    begin("from_newick ");
+    printing::raw(text);
+    line(format_args!(" : {} : {}", Shown(given), Listed(v)));
 }
 
 pub fn pack<'a>(v: &[u16], out: &'a mut [u8]) -> &'a [u8]

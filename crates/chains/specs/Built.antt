@@ -385,14 +385,21 @@ module _ {n : ℕ} {rs : List Row} {p l r a i : ℕ} {names lows small next last
     is_key : k ≡ K
     is_key = ek ∙ ap₂ min (ew ∙ ap₂ min is_larger (eu ∙ left.key)) (ev ∙ right.key) ∙ least_of_three I (lowest no_key L') (lowest no_key R')
 
-    pub adds_room : (p < 2048) × (a < 1024) × (i < 1024) × (k < 1024)
+    pub adds_room : (p < 2048) × (a < 1024) × (i < 1024) × (k < 1024) × (i < length small) × (k < length last)
     adds_room =
         let few = adds_few in
         let c = A.count in
-        rw (is_smaller, is_larger, is_key) (omega (arith, B.few), omega (arith, I_below, B.few), omega (arith, I_below, B.few), parts_bounded K K_has)
+        rw (is_smaller, is_larger, is_key) (
+          omega (arith, B.few),
+          omega (arith, I_below, B.few),
+          omega (arith, I_below, B.few),
+          parts_bounded K K_has,
+          omega (arith, I_below, B.small_room),
+          omega (arith, K_below, B.last_room),
+        )
 
-    pub adds_last : {j : ℕ} → j ≡ cell last k → j < 1024
-    adds_last {j} e = let z : j ≡ J = e ∙ ap (cell last) is_key in omega (arith, J_below, B.few)
+    pub adds_last : {j : ℕ} → j ≡ cell last k → (j < 1024) × (j < length next)
+    adds_last {j} e = let z : j ≡ J = e ∙ ap (cell last) is_key in (omega (arith, J_below, B.few), omega (arith, J_below, B.next_room))
 
     pub built_next : {j : ℕ} → j ≡ cell last k → Built n (rs ++ ((l, r, p) ∷ [])) (set names p a) (set lows p k) (set small i a) (set next j i) (set last k i)
     built_next {j} e = let z : j ≡ J = e ∙ ap (cell last) is_key in rw (is_smaller, is_larger, z, is_key) built'

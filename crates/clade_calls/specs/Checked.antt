@@ -56,7 +56,7 @@ module _ {s : List ℕ} {n trees : ℕ} {held : List ℕ} (B : FirstBatch s n tr
   pub first_held : held_in held ≡ batch_at most 0 (table s)
   first_held = B.first ∙ ap (batch_at most 0) same_table
 
-by_header : {s : List ℕ} {n trees : ℕ} → Given s n trees → Headed s n trees → Given s (leaf_count s) (trees_in s)
+pub by_header : {s : List ℕ} {n trees : ℕ} → Given s n trees → Headed s n trees → Given s (leaf_count s) (trees_in s)
 by_header G H = rw (H.leaves, H.count) at G
 
 pub passed_header : (s : List ℕ) {n trees : ℕ} (bound : ℕ) (held : List ℕ) (r : Option ℕ) → n ≡ leaf_count s → trees ≡ trees_in s → Passed s n trees bound held r

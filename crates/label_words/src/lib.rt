@@ -14,9 +14,9 @@ pub const WORDS: usize = 2048;
 pub const LEAVES: usize = 2047;
 
 // The second, third and fourth sign of a word stand at these values of its bytes; a count of signs stands where the fourth sign does.
-const SECOND: u32 = 256;
+pub const SECOND: u32 = 256;
 
-const THIRD: u32 = 65536;
+pub const THIRD: u32 = 65536;
 
 pub const FOURTH: u32 = 16777216;
 

@@ -1,11 +1,12 @@
 -- The loop that merges the leaf sets of clusters: after t merges the clusters are those that the other merges go on with.
 -- Main definitions: held_sets, BeforeSets, Merging. Main results: merging_start, next_sets, merging_next, merging_end, before_sets, sets_of_vector.
-use Rattle.std.specs.Prelude.{◌≡◌, refl, Bool, true, false, cond, List, [], ◌∷◌, ◌++◌, ℕ, suc, ◌+◌, ◌-◌, ◌^◌, ◌≤◌, ◌<◌, eqb, length, take, drop, get_or, set}
+use Rattle.std.specs.Prelude.{◌≡◌, refl, Bool, true, false, cond, List, [], ◌∷◌, ◌++◌, map, ℕ, suc, ◌+◌, ◌-◌, ◌^◌, ◌≤◌, ◌<◌, eqb, length, take, drop, get_or, set}
 use Rattle.std.proofs.Common.{sym, ap, ap₂, ◌∙◌, add-one, arith, length-set, drop-cons, drop-drop, get_or-drop, get_or-set_same, get_or-set_other, take_all, take_at, pow_mono, eqb-true}
 use Rattle.std.proofs.Math.ListN.{length-map, length-take, length-drop}
 use Rattle.std.proofs.lemmas.Bool.{eqb-false}
 use Rattle.rules.specs.Vector.{Valid}
 use Rattle.rules.specs.Building.{Merge}
+use Rattle.merging.specs.Insertion.{pairs}
 use Rattle.building.proofs.Built.{merges_are_pairs}
 use Rattle.written_tables.specs.Rows.{Inside}
 use Rattle.written_tables.proofs.Rows.{inside_at}
@@ -160,15 +161,16 @@ merging_end {list} {small} {start} {n} {clusters₀} {sets₀} {clusters} {sets}
     rw z at M.written ∙ ap (λ (l : List ℕ). l ++ drop (n - 1) sets₀) (take_all (n - 1) (held_sets list small start n) (omega (arith, sets_long M.given)))
 
 -- ---- of a vector's merges
-pub held_vector_sets : {v list small : List ℕ} {start : ℕ} → Valid v → MergesOf v list small start → held_sets list small start (length v) ≡ vector_sets v
+pub held_vector_sets : (v list small : List ℕ) (start : ℕ) → Valid v → map (held small) (take (length v - 1) (drop start list)) ≡ pairs v
+    → held_sets list small start (length v) ≡ vector_sets v
 unfolding held_sets held_merges vector_sets
-held_vector_sets {v} ok M = rw (M.listed, merges_are_pairs v ok)
+held_vector_sets v list small start ok e = rw (e, merges_are_pairs v ok)
 
 pub before_sets : {v list small : List ℕ} {start : ℕ} {clusters : List ℕ} → Valid v → length v ≤ 64 → MergesOf v list small start → length clusters ≡ 64
     → Bits (length v) clusters → BeforeSets list small start (length v) clusters
 unfolding held_merges
 before_sets {v} {list} {small} {start} {clusters} ok few M lc B =
-    let s = held_vector_sets ok M in
+    let s = held_vector_sets v list small start ok M.listed in
     let size = M.size in
     let size_small = M.size_small in
     let inside = M.inside in
@@ -183,8 +185,8 @@ before_sets {v} {list} {small} {start} {clusters} ok few M lc B =
       fits = λ t h. rw s (omega (arith, (set_at_bounds v ok t (omega (arith, length_vector_sets v ok, h))).1, pow_mono {i = length v} {j = 64} few));
     }
 
-pub sets_of_vector : {v list small : List ℕ} {start : ℕ} (sets sets₀ : List ℕ) → Valid v → MergesOf v list small start
+pub sets_of_vector : (v list small sets sets₀ : List ℕ) (start : ℕ) → Valid v → map (held small) (take (length v - 1) (drop start list)) ≡ pairs v
     → sets ≡ held_sets list small start (length v) ++ drop (length v - 1) sets₀ → take (length v - 1) sets ≡ vector_sets v
-sets_of_vector {v} sets sets₀ ok M w =
-    let s = held_vector_sets ok M in
+sets_of_vector v list small sets sets₀ start ok e w =
+    let s = held_vector_sets v list small start ok e in
     rw (w, s) (take_at (vector_sets v) (drop (length v - 1) sets₀) (length v - 1) (length_vector_sets v ok))

@@ -1,11 +1,12 @@
 -- The words of a tree's nodes: those of the leaves, and behind them, row by row, those of the pairs.
 -- Main definitions: Paired, PairRoom, Pairing. Main results: pairing_start, pairing_room, pairing_next, vector_paired.
-use Rattle.std.specs.Prelude.{List, ◌≡◌, ℕ, ◌+◌, ◌-◌, ◌*◌, ◌≤◌, ◌<◌, length, get_or, set}
+use Rattle.std.specs.Prelude.{List, map, ◌≡◌, ℕ, ◌+◌, ◌-◌, ◌*◌, ◌≤◌, ◌<◌, length, get_or, set, take, drop}
 use Rattle.std.proofs.Common.{sym, ap, subst, ◌∙◌, arith, length-set, get_or-set_same, get_or-set_other, below_more}
 use Rattle.rules.specs.Table.{Row}
-use Rattle.merges.specs.Built.{MergesOf}
+use Rattle.merging.specs.Insertion.{pairs}
+use Rattle.merges.specs.Held.{held}
 use Rattle.written_tables.specs.Rows.{vector_rows}
-use Rattle.numbering.specs.Numbered.{held_rows, BeforeRows, Numbered, next_merge, numbered_start, numbered_next, row_at, rows_of_merges}
+use Rattle.numbering.specs.Numbered.{held_rows, BeforeRows, Numbered, next_merge, numbered_start, numbered_next, row_at, rows_of_pairs}
 use Rattle.label_words.specs.Leaves.{word_places, leaves_place, LeafWords}
 
 -- a row's two children in one word
@@ -61,6 +62,6 @@ module _ {list small : List ℕ} {start n : ℕ} {number₀ number words : List 
       }
 
 -- the rows of the merges of a vector
-pub vector_paired : {v list small : List ℕ} {start : ℕ} (words : List ℕ) → MergesOf v list small start
+pub vector_paired : (v list small : List ℕ) (start : ℕ) (words : List ℕ) → map (held small) (take (length v - 1) (drop start list)) ≡ pairs v
     → Paired (length v) (held_rows list small start (length v)) words → Paired (length v) (vector_rows v) words
-vector_paired {v} words M P = subst (λ (rs : List Row). Paired (length v) rs words) (rows_of_merges M) P
+vector_paired v list small start words e P = subst (λ (rs : List Row). Paired (length v) rs words) (rows_of_pairs v list small start e) P

@@ -166,6 +166,9 @@ before_rows {v} V M ln itself =
       itself = itself;
     }
 
-pub rows_of_merges : {v list small : List ℕ} {start : ℕ} → MergesOf v list small start → held_rows list small start (length v) ≡ vector_rows v
+pub rows_of_pairs : (v list small : List ℕ) (start : ℕ) → map (held small) (take (length v - 1) (drop start list)) ≡ pairs v → held_rows list small start (length v) ≡ vector_rows v
 unfolding held_rows held_merges
-rows_of_merges M = rw M.listed
+rows_of_pairs v list small start e = rw e
+
+pub rows_of_merges : {v list small : List ℕ} {start : ℕ} → MergesOf v list small start → held_rows list small start (length v) ≡ vector_rows v
+rows_of_merges {v} {list} {small} {start} M = rows_of_pairs v list small start M.listed

@@ -86,6 +86,21 @@ impl<'a> fmt::Display for Hex<'a> {
     }
 }
 
+/// The beginning of a line on standard output.
+pub fn begin<D: fmt::Display + Drop>(text: D) {
+    let _ = write!(Output, "{text}");
+}
+
+/// Bytes on standard output as they stand, or - where there are none. They may be no signs at all, so they go past `Text`, which would
+/// write one above 127 as two.
+pub fn raw(s: &[u8]) {
+    if s.is_empty() {
+        begin("-");
+    } else {
+        io::write_all(1, s);
+    }
+}
+
 /// A line on standard output.
 pub fn line<D: fmt::Display + Drop>(text: D) {
     let _ = writeln!(Output, "{text}");

@@ -1,7 +1,7 @@
 // The queue of Queue Shuffle, over the rows of a tree: a leaf gets its new label, an inner node waits with its label.
 #![tactic(auto)]
 
-ghost use Rattle.std.specs.Prelude.{◌≡◌, [], ◌++◌, ◌+◌, ◌-◌, ◌<◌, ◌≤◌, drop};
+ghost use Rattle.std.specs.Prelude.{◌≡◌, [], ◌++◌, ◌+◌, ◌-◌, ◌<◌, ◌≤◌, drop, replicate};
 ghost use Rattle.rules.specs.Shuffle.{new_of};
 ghost use Rattle.shuffle_laws.specs.Handed.{outcome};
 ghost use Rattle.shuffle_laws.specs.Zipped.{zipped_nodes, zipped_tree, Tabled};
@@ -18,7 +18,9 @@ pub struct Queue {
 
 impl Queue {
     /// No node has joined, and no label is given.
-    pub fn empty() -> Queue {
+    pub fn empty() -> Queue
+        ensures { (result.nodes ≡ replicate 1024 0) × (result.labels ≡ replicate 1024 0) × (result.given ≡ replicate 1024 0) }
+    {
         Queue {
             nodes: [0; 1024],
             labels: [0; 1024],

@@ -1,5 +1,5 @@
 -- Numbers of one type added to those of another list, place by place.
--- Main definitions: Addable, Summed. Main results: summed_start, summed_next.
+-- Main definitions: Addable, Summed.
 use Rattle.std.specs.Prelude.{◌≡◌, ◌⊎◌, List, ℕ, ◌+◌, ◌≤◌, ◌<◌, length, get_or}
 
 -- the first steps, from one place on, can be added to the counts from another on

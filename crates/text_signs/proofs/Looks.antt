@@ -1,16 +1,14 @@
 -- One look at the bytes of a text: that no blank is there, how many signs there are, the place of one.
--- Main definition: Placing. Main results: plain_signs, count_signs, placing_blank, placing_sign, placing_here, placing_end.
-use mathlib.Core.Path.{◌≡◌, refl, ap, sym, ◌∙◌}
-use mathlib.Core.Bool.{Bool, true, false, not, cond}
+-- Main definitions: Counting, Placing. Main results: plain_signs, count_start, count_blank, count_sign, count_end, placing_blank, placing_sign, placing_here, placing_end.
+use mathlib.Core.Path.{◌≡◌, refl, ap, ◌∙◌}
+use mathlib.Core.Bool.{true, false}
 use mathlib.Core.List.{List, [], ◌∷◌}
 use Prim.Native.Nat.{ℕ, suc, ◌+◌, ◌-◌, ◌≤◌, ◌<◌}
 use native.Mathlib.Omega.{arith}
-use Rattle.std.specs.List.{count_by, filter}
-use Rattle.std.proofs.lemmas.List.Sums.{length-filter}
 use lib.ListN.{length, get_or, drop, drop_of_length-le}
 use borrow.Author.Tests.{ne_eqb}
 use Rattle.rules.specs.Sent.{blank, signs}
-use Rattle.blanks.proofs.Marks.{signs_sign}
+use Rattle.blanks.proofs.Marks.{signs_blank, signs_sign}
 use Rattle.blanks.specs.Places.{place_of}
 use Rattle.blanks.proofs.Places.{place_nil, place_blank, place_first, place_later}
 use Rattle.text_laws.proofs.Bytes.{drop_byte}
@@ -26,19 +24,33 @@ plain_signs [] h = refl
 plain_signs (c ∷ s) h =
     signs_sign c s (above_blank c (h 0 (omega arith))) ∙ ap (λ (x : List ℕ). c ∷ x) (plain_signs s (λ k l. h (suc k) (omega arith)))
 
--- the signs are the bytes that are no blanks
-filter_signs : (s : List ℕ) → filter (λ (c : ℕ). not (blank c)) s ≡ signs s
-unfolding signs
-filter_signs [] = refl
-filter_signs (c ∷ s) = go (blank c) refl (filter_signs s)
-  where
-    go : (b : Bool) → blank c ≡ b → filter (λ (x : ℕ). not (blank x)) s ≡ signs s
-        → filter (λ (x : ℕ). not (blank x)) (c ∷ s) ≡ cond b (signs s) (c ∷ signs s)
-    go true e k = rw e k
-    go false e k = rw e (ap (λ (x : List ℕ). c ∷ x) k)
+-- of the first i bytes so many are signs
+pub record Counting (s : List ℕ) (count i : ℕ) : Type 0 where
+  pub fewer : count ≤ i
+  pub counts : length (signs s) ≡ count + length (signs (drop i s))
 
-pub count_signs : (s : List ℕ) → count_by (λ (c : ℕ). not (blank c)) s ≡ length (signs s)
-count_signs s = sym (length-filter (λ (c : ℕ). not (blank c)) s) ∙ ap length (filter_signs s)
+pub count_start : (s : List ℕ) → Counting s 0 0
+count_start s = record { fewer = omega arith; counts = omega arith }
+
+module _ (s : List ℕ) (count i : ℕ) (C : Counting s count i) where
+  pub count_blank : i < length s → blank (get_or s i 0) ≡ true → Counting s count (i + 1)
+  count_blank h e = record {
+    fewer = omega (arith, C.fewer);
+    counts = C.counts ∙ ap (λ (x : List ℕ). count + length x) (ap signs (drop_byte s i h) ∙ signs_blank (get_or s i 0) (drop (i + 1) s) e);
+  }
+
+  pub count_sign : i < length s → blank (get_or s i 0) ≡ false → Counting s (count + 1) (i + 1)
+  count_sign h e =
+      let one : length (signs (drop i s)) ≡ suc (length (signs (drop (i + 1) s))) =
+      ap length (ap signs (drop_byte s i h) ∙ signs_sign (get_or s i 0) (drop (i + 1) s) e) in
+      record { fewer = omega (arith, C.fewer); counts = omega (arith, C.counts) }
+
+  pub count_end : length s ≤ i → count ≡ length (signs s)
+  unfolding signs
+  count_end h = let none : length (signs (drop i s)) ≡ 0 = ap (λ (x : List ℕ). length (signs x)) (drop_of_length-le s h) in omega (arith, C.counts)
+
+pub counting_as : {s : List ℕ} {count count' i : ℕ} → count' ≡ count → Counting s count i → Counting s count' i
+counting_as e C = rw e C
 
 -- sign number k stands so many signs behind place i
 pub record Placing (s : List ℕ) (k left i : ℕ) : Type 0 where

@@ -38,10 +38,17 @@ fn least_byte(s: &[u8]) -> u8
     least
 }
 
+// How many signs a text has. A loop, and no `filter` with `count`, which takes half as many instructions more for each byte.
 fn count_signs(s: &[u8]) -> usize
     ensures { result ≡ length (signs s.now) }
 {
-    s.iter().filter(|c| !is_blank(**c)).count()
+    let mut count = 0;
+    for c in s {
+        if !is_blank(*c) {
+            count += 1;
+        }
+    }
+    count
 }
 
 // Whether a digit at a place parts a label: blanks stand before it, and before them the sign last.

@@ -31,7 +31,9 @@ impl From<TooManySigns> for TextFault {
     }
 }
 
-// The vector of the tree with n leaves whose pairs are recorded, at the front of vector.
+// The vector of the tree with n leaves whose pairs are recorded, at the front of vector. It stays a function of its own: inlined, its arrays
+// would lie below the readers that call themselves, and a text would take a quarter more stack.
+#[inline(never)]
 fn pairs_vector(m: &[u32; CELLS], n: usize, vector: &mut [u16])
     requires le_n { (1 ≤ n) × (n ≤ 1024) × (n ≤ length vector.old) }
     requires table_of { (t : Tree) × TableOf n t (recorded_rows n (drop 1040 m.now)) }

@@ -1,7 +1,7 @@
 -- The first entry above its bound, as a number.
 -- Main definitions: first_fault, Passed.
--- Main results: first_fault_none, first_fault_some, passed_here, passed_end, all_within.
-use Rattle.std.specs.Prelude.{◌≡◌, refl, List, ℕ, zero, suc, ◌+◌, ◌-◌, ◌*◌, ◌≤◌, ◌<◌, length, get_or, drop}
+-- Main results: first_fault_none, first_fault_some, none_numbered, some_numbered, passed_start, passed_here, passed_end, first_above, empty_fault, all_within.
+use Rattle.std.specs.Prelude.{◌≡◌, refl, List, [], ◌∷◌, ℕ, zero, suc, ◌+◌, ◌-◌, ◌*◌, ◌≤◌, ◌<◌, length, get_or, drop}
 use Rattle.std.proofs.Common.{◌∙◌, add-one, arith, drop-cons, lt-ltb, le-ltb}
 use Rattle.std.proofs.Math.Option
 use Rattle.std.proofs.Math.Option.{Option, none, some}
@@ -30,9 +30,23 @@ first_fault_some v h = go (fault 0 v) h
     go none l = absurd (omega arith)
     go (some p) l = refl
 
+-- and which number says it
+pub none_numbered : (v : List ℕ) → fault 0 v ≡ none → length v ≡ first_fault v
+unfolding first_fault
+none_numbered v e = rw e
+
+pub some_numbered : (v : List ℕ) (i : ℕ) → fault 0 v ≡ some i → i ≡ first_fault v
+unfolding first_fault
+some_numbered v i e = rw e
+
 -- the loop of the check: no fault before entry i
 pub record Passed (v : List ℕ) (i : ℕ) : Type 0 where
   pub rest : fault 0 v ≡ fault i (drop i v)
+
+pub passed_start : (v : List ℕ) → 0 < length v → get_or v 0 0 ≤ 0 → Passed v 1
+unfolding fault
+passed_start [] h l = absurd (omega arith)
+passed_start (x ∷ v) h l = record { rest = rw (le-ltb (2 * (0 - 1)) x (omega arith)) refl }
 
 pub passed_next : {v : List ℕ} {i : ℕ} → Passed v i → i < length v → get_or v i 0 ≤ 2 * (i - 1) → Passed v (i + 1)
 unfolding fault
@@ -45,6 +59,16 @@ passed_here {v} {i} P h l = P.rest ∙ rw (drop-cons v i 0 h, lt-ltb (2 * (i - 1
 pub passed_end : {v : List ℕ} {i : ℕ} → Passed v i → i ≡ length v → fault 0 v ≡ none
 unfolding fault
 passed_end {v} P e = P.rest ∙ rw (e, drop-length v)
+
+pub first_above : (v : List ℕ) → 0 < length v → 0 < get_or v 0 0 → fault 0 v ≡ some 0
+unfolding fault
+first_above [] h l = absurd (omega arith)
+first_above (x ∷ v) h l = rw (lt-ltb (2 * (0 - 1)) x (omega arith))
+
+pub empty_fault : (v : List ℕ) → length v ≡ 0 → fault 0 v ≡ none
+unfolding fault
+empty_fault [] e = refl
+empty_fault (x ∷ v) e = absurd (omega arith)
 
 -- no entry is above its bound
 pub all_within : (v : List ℕ) → get_or v 0 0 ≤ 0 → ((k : ℕ) → 1 ≤ k → k < length v → get_or v k 0 ≤ 2 * (k - 1)) → fault 0 v ≡ none

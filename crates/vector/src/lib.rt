@@ -4,6 +4,7 @@
 ghost use Rattle.std.specs.Prelude.{◌≡◌, ℕ, ◌-◌, ◌*◌, ◌<◌, ◌≤◌, MatchOption, length, get_or};
 ghost use Rattle.std.proofs.Math.Option.{none, some};
 ghost use Rattle.rules.specs.Vector.{fault};
+ghost use Rattle.vector.specs.Fault.{first_fault};
 
 // 1 where x is above its bound, else 0.
 fn excess(x: u16, bound: u16) -> u16
@@ -27,13 +28,22 @@ fn faults_behind_first(v: &[u16]) -> u16
 // The number of the first entry above its bound, or None where each is within its bound.
 pub fn first_fault(v: &[u16]) -> Option<usize>
     requires { length v.now ≤ 1024 }
-    ensures { MatchOption result (fault 0 v.now ≡ none) (λ i. fault 0 v.now ≡ some i) }
+    ensures fault { MatchOption result (fault 0 v.now ≡ none) (λ i. fault 0 v.now ≡ some i) }
+    ensures number { MatchOption result (length v.now ≡ first_fault v.now) (λ i. i ≡ first_fault v.now) }
 {
-    if !v.is_empty() && v[0] == 0 && faults_behind_first(v) == 0 {
+    let n = v.len();
+    if n == 0 {
         return None;
     }
-    for (i, x) in v.iter().enumerate() {
-        if 2 * i.saturating_sub(1) < usize::from(*x) {
+    if 0 < v[0] {
+        return Some(0);
+    }
+    if faults_behind_first(v) == 0 {
+        return None;
+    }
+    // From 1 on, and by places: over the entries with their places a refused vector would take twice the instructions.
+    for i in 1..n {
+        if 2 * (i - 1) < usize::from(v[i]) {
             return Some(i);
         }
     }

@@ -54,7 +54,7 @@ first_fault_in-requires c = let C = counted c.args.leaves c.args.entries.now (om
 pub returns-in-Some : goal.returns-in-Some
 unfolding answers.number_of
 returns-in-Some c = let C = counted c.args.leaves c.args.entries.now (omega arith) c.if-leaves-gt-MOST_LEAVES.false (omega arith) in
-    refused_early _ (write_above _ _ C.some_leaf C.few_leaves _ C.few c.if-trees-leaves.false c.in-Some.ensures) c.refuse-in-Some.ensures
+    refused_early _ (write_above _ _ C.some_leaf C.few_leaves _ C.few c.if-trees-leaves.false c.in-Some.ensures.fault) c.refuse-in-Some.ensures
 
 pub implied_length-bytes-requires : goal.implied_length-bytes-requires
 implied_length-bytes-requires c = let C = counted c.args.leaves c.args.entries.now (omega arith) c.if-leaves-gt-MOST_LEAVES.false (omega arith) in
@@ -63,7 +63,7 @@ implied_length-bytes-requires c = let C = counted c.args.leaves c.args.entries.n
 pub returns-then-out-bytes : goal.returns-then-out-bytes
 unfolding answers.number_of
 returns-then-out-bytes c = let C = counted c.args.leaves c.args.entries.now (omega arith) c.if-leaves-gt-MOST_LEAVES.false (omega arith) in
-    let W = write_accepted _ _ C.some_leaf C.few_leaves C.few c.if-trees-leaves.false c.in_default.ensures in
+    let W = write_accepted _ _ C.some_leaf C.few_leaves C.few c.if-trees-leaves.false c.in_default.ensures.fault in
     short_room _ _ W.0 (W.1 ∙ sym c.implied_length-bytes.ensures) c.if-out-bytes.true c.refuse-then-out-bytes.ensures
 
 pub bare_length-requires : goal.bare_length-requires
@@ -77,7 +77,7 @@ write_archive-requires c = let C = counted c.args.leaves c.args.entries.now (ome
       few_leaves = C.few_leaves;
       whole = sym c.if-trees-leaves.false;
       few = trees_most C;
-      within = c.in_default.ensures;
+      within = c.in_default.ensures.fault;
       size = c.bare_length.ensures;
       fits = rw c.implied_length-bytes.ensures at c.if-out-bytes.false;
     }
@@ -85,6 +85,6 @@ write_archive-requires c = let C = counted c.args.leaves c.args.entries.now (ome
 pub returns : goal.returns
 unfolding answers.number_of
 returns c = let C = counted c.args.leaves c.args.entries.now (omega arith) c.if-leaves-gt-MOST_LEAVES.false (omega arith) in
-    let W = write_accepted _ _ C.some_leaf C.few_leaves C.few c.if-trees-leaves.false c.in_default.ensures in
+    let W = write_accepted _ _ C.some_leaf C.few_leaves C.few c.if-trees-leaves.false c.in_default.ensures.fault in
     let e = c.implied_length-bytes.ensures in
     full_list _ _ W.0 (W.1 ∙ sym e) c.if-out-bytes.false (rw (← e) at c.write_archive.ensures)

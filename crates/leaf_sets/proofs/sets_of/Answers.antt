@@ -14,4 +14,4 @@ merged_sets-requires c = let a = c.args in
     )
 
 pub returns : goal.returns
-returns c = sets_of_vector c.merged_sets.new.sets c.args.sets.now c.requires.vector.0.valid c.fill.ensures c.merged_sets.ensures
+returns c = sets_of_vector _ _ _ c.merged_sets.new.sets c.args.sets.now _ c.requires.vector.0.valid c.fill.ensures.listed c.merged_sets.ensures

@@ -7,4 +7,4 @@ pub pair_words-requires : goal.pair_words-requires
 pair_words-requires c = (before_rows c.requires c.fill.ensures (search rules) c.number_leaves.ensures, c.leaf_words.ensures)
 
 pub returns : goal.returns
-returns c = vector_paired _ c.fill.ensures c.pair_words.ensures
+returns c = vector_paired _ _ _ _ _ c.fill.ensures.listed c.pair_words.ensures

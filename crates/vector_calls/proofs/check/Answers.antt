@@ -15,8 +15,8 @@ returns-then-n-gt1024 c = refused_early _ (large_refused _ c.if-n-gt1024.true) c
 
 pub returns-in-Some : goal.returns-in-Some
 unfolding answers.reads answers.number_of
-returns-in-Some c = refused_early _ (fault_refused _ _ (omega arith) (omega arith) c.in-Some.ensures) c.refuse-in-Some.ensures
+returns-in-Some c = refused_early _ (fault_refused _ _ (omega arith) (omega arith) c.in-Some.ensures.fault) c.refuse-in-Some.ensures
 
 pub returns : goal.returns
 unfolding answers.reads answers.number_of
-returns c = full_room _ _ (passes _ (omega arith) (omega arith) c.in_default.ensures) refl (omega arith) refl
+returns c = full_room _ _ (passes _ (omega arith) (omega arith) c.in_default.ensures.fault) refl (omega arith) refl
