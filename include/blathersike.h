@@ -26,8 +26,8 @@
  * alike.
  *
  * Stack. In bytes, at the deepest, as measured over trees of 1,024 leaves (bench/run --stack): check 8,
- * to_table 12,488, from_table 17,864, to_newick 55,400, from_newick 69,736, pack 1,416, unpack 2,256, shuffle 28,184,
- * relabel 22,040, write_archive 1,480, read_tree 2,256, view 0, clade_table 92,256 (over trees of 64 leaves), however
+ * to_table 12,488, from_table 17,864, to_newick 55,400, from_newick 52,328, pack 1,416, unpack 2,264, shuffle 28,184,
+ * relabel 22,056, write_archive 1,464, read_tree 2,264, view 0, clade_table 92,264 (over trees of 64 leaves), however
  * many trees there are. Have 128 KiB free: nothing in the library looks whether there is enough.
  *
  * Answers. The last parameter points to two numbers that every call sets:
