@@ -38,8 +38,8 @@ fn least_byte(s: &[u8]) -> u8
     least
 }
 
-// How many signs a text has. A loop, and no `filter` with `count`, which takes half as many instructions more for each byte. It stays a function of
-// its own: inlined, it costs the copy of a text with blanks an instruction for each byte.
+// How many signs a text has. A loop: by `filter` and `count` a long text with a parted label took a third more time. It stays a function of its own:
+// inlined, it costs the copy of a text with blanks an instruction for each byte.
 #[inline(never)]
 fn count_signs(s: &[u8]) -> usize
     ensures { result ≡ length (signs s.now) }
